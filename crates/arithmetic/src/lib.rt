@@ -1,0 +1,1 @@
+// Mathematics of whole numbers only: nothing here runs.
