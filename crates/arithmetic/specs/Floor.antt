@@ -1,6 +1,6 @@
 -- Division of a whole number by a whole number above zero, rounded down (01, "Units and rounding").
-use Prim.Native.Nat.{ℕ, suc, _-_, _/_, _%_}
-use lib.IntN.{ℤ, pos, negsuc}
+use Prim.Native.Nat.{_%_, _-_, _/_, suc, ℕ}
+use lib.IntN.{negsuc, pos, ℤ}
 
 -- every division is a floor, also below zero: the greatest whole number that is not above z / d
 unfoldable pub ⌊_÷_⌋ : ℤ → ℕ → ℤ

@@ -1,0 +1,5 @@
+pub mod Difference
+pub mod Solver
+pub mod Integers
+pub mod FloorLaws
+pub mod RatioLaws

@@ -1,0 +1,1 @@
+// Mathematics of exact fractions only: nothing here runs.
