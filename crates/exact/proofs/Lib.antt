@@ -1,0 +1,11 @@
+pub mod FractionLaws
+pub mod Order
+pub mod Floors
+pub mod Series
+pub mod Addition
+pub mod Horner
+pub mod UnitCircle
+pub mod Rotation
+pub mod Terms
+pub mod ReferenceLaws
+pub mod LinearStep
