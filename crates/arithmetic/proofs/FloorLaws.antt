@@ -5,8 +5,9 @@ use Prim.Native.Nat.{_%_, _*_, _+_, _-_, _/_, _<_, _≤_, suc, zero, ℕ}
 use native.Mathlib.Decide.{decLt}
 use native.Mathlib.Nat.{div-add-mod, div-le-self, div-zero, mod-lt, mul-le-mul-left, zero-lt-suc}
 use native.Mathlib.Omega.{arith}
+use lib.Dec.{ltb→lt}
 use lib.IntN.{+ℤ-comm, _*ℤ_, _+ℤ_, _-ℤ_, natAbs, negsuc, pos, ℤ}
-use lib.Signed.{_<ℤ_, _≤ℤ_, shrZ}
+use lib.Signed.{_<ℤ_, _≤ℤ_, mag, shrZ}
 use Rattle.arithmetic.specs.Floor.{_modulo_, ⌊_÷_⌋}
 use Rattle.arithmetic.proofs.Difference.{#_, _⊞_, _⊟ℤ_, _⊠_, by-eq, by-le, by-lt, dn, to-eq, to-le, to-lt, up, ⟨_⟩}
 use Rattle.arithmetic.proofs.Integers.{linℤ}
@@ -98,16 +99,23 @@ pub left-over : (z : ℤ) {d : ℕ} → 0 < d → z -ℤ ⌊ z ÷ d ⌋ *ℤ pos
 left-over z {d} h = by-eq (⟨ z ⟩ ⊟ℤ ⟨ ⌊ z ÷ d ⌋ ⟩ ⊠ # d) (# (z modulo d)) (omega (arith, split-nat z h))
 
 -- one more digit, Horner's step: ⌊(a k + c) / d⌋ from ⌊a / d⌋ and what that leaves
-pub next-digit : (a c : ℤ) (k : ℕ) {d : ℕ} → 0 < d →
-    ⌊ a *ℤ pos k +ℤ c ÷ d ⌋ ≡ ⌊ a ÷ d ⌋ *ℤ pos k +ℤ ⌊ pos (a modulo d) *ℤ pos k +ℤ c ÷ d ⌋
+digit-split : (a c : ℤ) (k : ℕ) {d : ℕ} → 0 < d → a *ℤ pos k +ℤ c ≡ pos (a modulo d) *ℤ pos k +ℤ c +ℤ pos d *ℤ (⌊ a ÷ d ⌋ *ℤ pos k)
+digit-split a c k {d} p =
+    linℤ (x0 :* x1 :+ x2) (x4 :* x1 :+ x2 :+ x3 :* (x5 :* x1)) x1 x0 (x3 :* x5 :+ x4)
+    (a ∷ pos k ∷ c ∷ pos d ∷ pos (a modulo d) ∷ ⌊ a ÷ d ⌋ ∷ []) tt (split a p)
+
+pub next-digit : (a c : ℤ) (k : ℕ) {d : ℕ} → 0 < d
+    → ⌊ a *ℤ pos k +ℤ c ÷ d ⌋ ≡ ⌊ a ÷ d ⌋ *ℤ pos k +ℤ ⌊ pos (a modulo d) *ℤ pos k +ℤ c ÷ d ⌋
 next-digit a c k {d} p =
-    let q = ⌊ a ÷ d ⌋ in
     let x = pos (a modulo d) *ℤ pos k +ℤ c in
-    ap (λ (z : ℤ). ⌊ z ÷ d ⌋)
-    (linℤ (x0 :* x1 :+ x2) (x4 :* x1 :+ x2 :+ x3 :* (x5 :* x1)) x1 x0 (x3 :* x5 :+ x4)
-    (a ∷ pos k ∷ c ∷ pos d ∷ pos (a modulo d) ∷ q ∷ []) tt (split a p))
-    ∙ shift-floor x (q *ℤ pos k) p
-    ∙ +ℤ-comm ⌊ x ÷ d ⌋ (q *ℤ pos k)
+    ap (λ (z : ℤ). ⌊ z ÷ d ⌋) (digit-split a c k p)
+    ∙ shift-floor x (⌊ a ÷ d ⌋ *ℤ pos k) p
+    ∙ +ℤ-comm ⌊ x ÷ d ⌋ (⌊ a ÷ d ⌋ *ℤ pos k)
+
+-- and what that leaves
+pub next-modulo : (a c : ℤ) (k : ℕ) {d : ℕ} → 0 < d → (a *ℤ pos k +ℤ c) modulo d ≡ (pos (a modulo d) *ℤ pos k +ℤ c) modulo d
+next-modulo a c k {d} p =
+    ap (λ (z : ℤ). z modulo d) (digit-split a c k p) ∙ shift-modulo (pos (a modulo d) *ℤ pos k +ℤ c) (⌊ a ÷ d ⌋ *ℤ pos k) p
 
 -- a shift to the right is a floor
 pub shift-right : (z : ℤ) (m : ℕ) → shrZ z m ≡ ⌊ z ÷ m ⌋
@@ -116,6 +124,9 @@ shift-right (pos n) m = refl
 shift-right (negsuc n) m = refl
 
 -- ---- how large it is
+pub left-small : (z : ℤ) {d : ℕ} → 0 < d → natAbs (z -ℤ ⌊ z ÷ d ⌋ *ℤ pos d) ≤ d
+left-small z {d} h = rw (left-over z h) (omega (arith, modulo-below z h))
+
 pub floor-small : (z : ℤ) (d : ℕ) → natAbs ⌊ z ÷ d ⌋ ≤ natAbs z
 unfolding ⌊_÷_⌋
 floor-small (pos n) d = div-le-self n d
@@ -125,3 +136,33 @@ pub floor-most : (z : ℤ) (d m : ℕ) → natAbs z ≤ m → natAbs ⌊ z ÷ d 
 unfolding ⌊_÷_⌋
 floor-most (pos n) d m h = omega (arith, div-mono d h)
 floor-most (negsuc n) d m h = let k : n ≤ m = omega arith in omega (arith, div-mono d k)
+
+-- ---- the sides of zero
+pub below-is : {a : ℤ} → a <ℤ pos 0 → a ≡ negsuc (mag a)
+below-is {a = pos n} h = absurd (none n (ltb→lt n 0 (h .lt)))
+  where
+    none : (n : ℕ) → n < 0 → ⊥
+    none n h = omega arith
+below-is {a = negsuc n} h = refl
+
+pub above-is : {a : ℤ} → pos 0 ≤ℤ a → a ≡ pos (mag a)
+above-is {a = pos n} h = refl
+above-is {a = negsuc n} h = absurd (h .le)
+
+-- n and -1 - n have the same magnitude n, which is what is divided
+module _ {a : ℤ} (d : ℕ) where
+  pub floor-below : a <ℤ pos 0 → ⌊ a ÷ d ⌋ ≡ negsuc (mag a / d)
+  unfolding ⌊_÷_⌋
+  floor-below h = rw (below-is h) refl
+
+  pub floor-above : pos 0 ≤ℤ a → ⌊ a ÷ d ⌋ ≡ pos (mag a / d)
+  unfolding ⌊_÷_⌋
+  floor-above h = rw (above-is h) refl
+
+  pub modulo-of-below : a <ℤ pos 0 → a modulo d ≡ d - suc (mag a % d)
+  unfolding _modulo_
+  modulo-of-below h = rw (below-is h) refl
+
+  pub modulo-of-above : pos 0 ≤ℤ a → a modulo d ≡ mag a % d
+  unfolding _modulo_
+  modulo-of-above h = rw (above-is h) refl

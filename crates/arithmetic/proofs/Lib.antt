@@ -3,3 +3,5 @@ pub mod Solver
 pub mod Integers
 pub mod FloorLaws
 pub mod RatioLaws
+pub mod Sizes
+pub mod Table

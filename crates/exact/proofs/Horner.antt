@@ -5,7 +5,7 @@ use Prim.Native.Nat.{suc, zero, ℕ}
 use Rattle.arithmetic.proofs.Solver.{_:*_, _:+_, k0, k1, neg′, x0, x1, x2, x3, x4, x5}
 use Rattle.exact.specs.Fraction.{_*q_, _+q_, inv, nat, negq, whole, ℚ}
 use Rattle.exact.specs.Reference.{sum}
-use Rattle.exact.proofs.Addition.{cos-sum, cos-term, sin-sum, sin-term}
+use Rattle.exact.proofs.Addition.{cos-sum, cos-term, cos₄₀, sin-sum, sin-term, sin₄₀}
 use Rattle.exact.proofs.FractionLaws.{solveq}
 use Rattle.exact.proofs.Series.{Sequence, shift}
 
@@ -20,7 +20,7 @@ horner Z zero = nat 0
 horner Z (suc n) = nat 1 +q Z 0 *q horner (shift (shift Z)) n
 
 -- a sequence whose term after next is Z times the term
-pub by-horner : (F Z : Sequence) → ((i : ℕ) → F (suc (suc i)) ≡ Z i *q F i) → (n : ℕ) → sum F (double n) ≡ F 0 *q horner Z n +q F 1 *q horner (shift Z) n
+by-horner : (F Z : Sequence) → ((i : ℕ) → F (suc (suc i)) ≡ Z i *q F i) → (n : ℕ) → sum F (double n) ≡ F 0 *q horner Z n +q F 1 *q horner (shift Z) n
 unfolding double horner sum
 by-horner F Z h zero = solveq k0 (x0 :* k0 :+ x1 :* k0) (F 0 ∷ F 1 ∷ []) tt
 by-horner F Z h (suc n) =
@@ -50,15 +50,24 @@ pub inv-0 : inv 0 ≡ nat 1
 unfolding inv whole
 inv-0 = refl
 
-pub sin-is : (n : ℕ) (a : ℚ) → sin-sum (double n) a ≡ sin-horner n a
+sin-is : (n : ℕ) (a : ℚ) → sin-sum (double n) a ≡ sin-horner n a
 unfolding sin-term sin-horner
 sin-is n a =
     by-horner (sin-term a) (ratios (negq (a *q a))) (sin-two a) n
     ∙ ap (λ z. nat 0 *q horner (ratios (negq (a *q a))) n +q z *q (a *q nat 1) *q horner (λ i. ratios (negq (a *q a)) (suc i)) n) inv-0
     ∙ solveq (k0 :* x0 :+ k1 :* (x1 :* k1) :* x2) (x1 :* x2) (horner (ratios (negq (a *q a))) n ∷ a ∷ horner (λ i. ratios (negq (a *q a)) (suc i)) n ∷ []) tt
 
-pub cos-is : (n : ℕ) (a : ℚ) → cos-sum (double n) a ≡ cos-horner n a
+cos-is : (n : ℕ) (a : ℚ) → cos-sum (double n) a ≡ cos-horner n a
 unfolding sin-term cos-horner
 cos-is n a =
     by-horner (cos-term a) (ratios (negq (a *q a))) (cos-two a) n
     ∙ solveq (k1 :* x0 :+ (x3 :* neg′ (x1 :* k0)) :* x2) x0 (horner (ratios (negq (a *q a))) n ∷ a ∷ horner (λ i. ratios (negq (a *q a)) (suc i)) n ∷ inv 0 ∷ []) tt
+
+-- at 40 terms
+pub sin₄₀-is : (a : ℚ) → sin₄₀ a ≡ sin-horner 20 a
+unfolding double
+sin₄₀-is a = sin-is 20 a
+
+pub cos₄₀-is : (a : ℚ) → cos₄₀ a ≡ cos-horner 20 a
+unfolding double
+cos₄₀-is a = cos-is 20 a

@@ -1,11 +1,13 @@
 -- The reference at angles that agree up to whole turns and a small error, and a quarter turn on. Angles are in degrees.
+use mathlib.Core.Bool.{Bool}
 use mathlib.Core.List.{[], _∷_}
 use mathlib.Core.Logic.{_⊎_, inl, inr}
 use mathlib.Core.Path.{_∙_, _≡_, ap, ap₂, refl, subst, sym}
 use mathlib.Core.Quot.{Quot·sound}
 use Prim.Native.Nat.{_+_, suc, zero, ℕ}
 use native.Mathlib.Omega.{arith}
-use lib.IntN.{_+ℤ_, _-ℤ_, negsuc, pos, ℤ}
+use lib.Dec.{T, eqb, eqb→eq}
+use lib.IntN.{_+ℤ_, _-ℤ_, natAbs, negsuc, pos, ℤ}
 use Rattle.arithmetic.proofs.Solver.{_:*_, _:+_, _:-_, con, k0, k1, k2, neg′, x0, x1, x2, x3, x4, x5}
 use Rattle.exact.specs.Fraction.{NN, Within, _*q_, _+q_, _-q_, _over_, _≤q_, floor, inv, nat, negq, nn, whole, ℚ}
 use Rattle.exact.specs.Reference.{brought, cos°, sin°, π}
@@ -13,7 +15,7 @@ use Rattle.exact.proofs.Addition.{cos₄₀, sin₄₀}
 use Rattle.exact.proofs.Floors.{In, fraction-floor, nat-add}
 use Rattle.exact.proofs.FractionLaws.{inv-mul, linq, solveq, whole-add, whole-neg, whole-sub}
 use Rattle.exact.proofs.Order.{_∗_, _⊹_, leby, nn-int, nnby, total, within-add, within-le, within-mul, within-neg, within-self, within-sub, ≤q-trans}
-use Rattle.exact.proofs.Rotation.{Wave, across, cosine-wave, half-back, quarter-back, quarter-on, quarter-turn, sine-wave, step, stepped, tiny, tiny-nn}
+use Rattle.exact.proofs.Rotation.{Wave, across, cosine-wave, half-back, quarter-back, quarter-on, sine-wave, step, stepped, tiny, tiny-nn, π/2}
 use Rattle.exact.proofs.Terms.{cosine-series-is, sine-series-is}
 use Rattle.exact.proofs.UnitCircle.{one+, wide}
 
@@ -29,7 +31,7 @@ slack = nat 1 over 100
 half-is : nat 180 *q radian ≡ π
 half-is = linq (x0 :* (x1 :* x2)) x1 x1 (x0 :* x2) k1 (nat 180 ∷ π ∷ inv 179 ∷ []) tt (inv-mul 179)
 
-quarter-is : nat 90 *q radian ≡ quarter-turn
+quarter-is : nat 90 *q radian ≡ π/2
 unfolding whole inv _*q_
 quarter-is = Quot·sound refl
 
@@ -226,6 +228,23 @@ pub exactly : {f g : ℚ → ℚ} → Reference f g → {x q : ℚ} (j : ℤ) �
 exactly R {x} {q} j hq h =
     R .at j hq (within-self (nn-int 0)) slack-nn (h ∙ solveq (x0 :+ x1 :* x2) (x0 :+ x1 :* x2 :+ k0) (q ∷ nat 360 ∷ whole j ∷ []) tt)
 
+-- ---- an angle that needs no turn taken off: its reference is the series, which Horner's rule computes
+unfoldable pub plain : ℚ → Bool
+plain x = eqb (natAbs (floor ((x +q nat 180) over 360))) 0
+
+brought-same : (x : ℚ) → T (plain x) → brought x ≡ x
+unfolding plain
+brought-same x t =
+    ap (λ (z : ℤ). x -q nat 360 *q whole z) (zero-of (floor ((x +q nat 180) over 360)) (eqb→eq (natAbs (floor ((x +q nat 180) over 360))) 0 t))
+    ∙ solveq (x0 :- x1 :* k0) x0 (x ∷ nat 360 ∷ []) tt
+  where
+    zero-of : (z : ℤ) → natAbs z ≡ 0 → z ≡ pos 0
+    zero-of (pos n) h = ap pos h
+    zero-of (negsuc n) h = absurd (omega arith)
+
+pub plain-is : {f g : ℚ → ℚ} → Reference f g → (x : ℚ) → T (plain x) → g x ≡ f (x *q radian)
+plain-is {f} R x t = R .is x ∙ ap (λ (y : ℚ). f (y *q radian)) (brought-same x t)
+
 -- ---- a quarter turn on, the sine is the cosine
 abbrev pub quarter-error : ℚ
 quarter-error = moving (nat 0) +q (tiny +q tiny)
@@ -273,7 +292,7 @@ module _ (x : ℚ) where
       ∙ ap (λ z. (brought x -q nat 180 -q nat 90) +q nat 360 *q z) (sym (whole-add (turns-of x) (pos 1))))
       (subst (λ z. Within (sin₄₀ z -q cos₄₀ v) (tiny +q tiny))
       (ap₂ (λ y z. v -q y -q z) (sym half-is) (sym quarter-is) ∙ solveq (x0 :* x3 :- x1 :* x3 :- x2 :* x3) ((x0 :- x1 :- x2) :* x3) (brought x ∷ nat 180 ∷ nat 90 ∷ radian ∷ []) tt)
-      (subst (λ z. Within z (tiny +q tiny)) (solveq ((x0 :+ x1) :- (x1 :+ x2)) (x0 :- x2) (sin₄₀ (v -q π -q quarter-turn) ∷ cos₄₀ (v -q π) ∷ cos₄₀ v ∷ []) tt)
+      (subst (λ z. Within z (tiny +q tiny)) (solveq ((x0 :+ x1) :- (x1 :+ x2)) (x0 :- x2) (sin₄₀ (v -q π -q π/2) ∷ cos₄₀ (v -q π) ∷ cos₄₀ v ∷ []) tt)
       (within-sub (quarter-back sine-wave back) (half-back cosine-wave (to-wide (brought-within x))))))
     where
       back : Within (v -q π) wide

@@ -47,14 +47,14 @@ tiny-ok : ε +q one+ *q miss +q one+ *q miss ≤q tiny
 unfolding nn whole inv _+q_ _*q_ negq
 tiny-ok = record { diff = record { is = tt } }
 
-abbrev pub quarter-turn : ℚ
-quarter-turn = π over 2
+abbrev pub π/2 : ℚ
+π/2 = π over 2
 
 pub π-wide : Within π wide
 unfolding nn whole inv _+q_ _*q_ negq
 π-wide = record { lo = record { is = tt }; hi = record { is = tt } }
 
-quarter-wide : Within quarter-turn wide
+quarter-wide : Within π/2 wide
 unfolding nn whole inv _+q_ _*q_ negq
 quarter-wide = record { lo = record { is = tt }; hi = record { is = tt } }
 
@@ -66,11 +66,11 @@ cos-π : Within (cos₄₀ π -q whole (negsuc 0)) miss
 unfolding nn whole inv _+q_ _*q_ negq sum sin-term
 cos-π = record { lo = record { is = tt }; hi = record { is = tt } }
 
-sin-quarter : Within (sin₄₀ quarter-turn -q nat 1) miss
+sin-quarter : Within (sin₄₀ π/2 -q nat 1) miss
 unfolding nn whole inv _+q_ _*q_ negq sum sin-term
 sin-quarter = record { lo = record { is = tt }; hi = record { is = tt } }
 
-cos-quarter : Within (cos₄₀ quarter-turn -q nat 0) miss
+cos-quarter : Within (cos₄₀ π/2 -q nat 0) miss
 unfolding nn whole inv _+q_ _*q_ negq sum sin-term
 cos-quarter = record { lo = record { is = tt }; hi = record { is = tt } }
 
@@ -126,15 +126,15 @@ module _ {f g : ℚ → ℚ} (W : Wave f g) where
       subst (λ z. Within z tiny) (solveq (x0 :- (x1 :* con (negsuc 0) :+ x2 :* neg′ k0)) (x0 :+ x1) (f (v -q π) ∷ f v ∷ g v ∷ []) tt)
       (rotated (whole (negsuc 0)) (negq (nat 0)) h (within-neg π-wide) (cos-back π (whole (negsuc 0)) cos-π) (sin-back π (nat 0) sin-π))
 
-  pub quarter-on : {v : ℚ} → Within v wide → Within (f (v +q quarter-turn) -q g v) tiny
+  pub quarter-on : {v : ℚ} → Within v wide → Within (f (v +q π/2) -q g v) tiny
   quarter-on {v} h =
-      subst (λ z. Within z tiny) (solveq (x0 :- (x1 :* k0 :+ x2 :* k1)) (x0 :- x2) (f (v +q quarter-turn) ∷ f v ∷ g v ∷ []) tt)
+      subst (λ z. Within z tiny) (solveq (x0 :- (x1 :* k0 :+ x2 :* k1)) (x0 :- x2) (f (v +q π/2) ∷ f v ∷ g v ∷ []) tt)
       (rotated (nat 0) (nat 1) h quarter-wide cos-quarter sin-quarter)
 
-  pub quarter-back : {v : ℚ} → Within v wide → Within (f (v -q quarter-turn) +q g v) tiny
+  pub quarter-back : {v : ℚ} → Within v wide → Within (f (v -q π/2) +q g v) tiny
   quarter-back {v} h =
-      subst (λ z. Within z tiny) (solveq (x0 :- (x1 :* k0 :+ x2 :* neg′ k1)) (x0 :+ x2) (f (v -q quarter-turn) ∷ f v ∷ g v ∷ []) tt)
-      (rotated (nat 0) (negq (nat 1)) h (within-neg quarter-wide) (cos-back quarter-turn (nat 0) cos-quarter) (sin-back quarter-turn (nat 1) sin-quarter))
+      subst (λ z. Within z tiny) (solveq (x0 :- (x1 :* k0 :+ x2 :* neg′ k1)) (x0 :+ x2) (f (v -q π/2) ∷ f v ∷ g v ∷ []) tt)
+      (rotated (nat 0) (negq (nat 1)) h (within-neg quarter-wide) (cos-back π/2 (nat 0) cos-quarter) (sin-back π/2 (nat 1) sin-quarter))
 
   -- across the seam: w is v, a whole turn and a step d
   pub across : {v w d δ : ℚ} → Within v wide → Within (v +q π) wide → Within (w -q π) wide → Within d δ → δ ≤q wide → w ≡ v +q (π +q π) +q d

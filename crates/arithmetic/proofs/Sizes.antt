@@ -1,0 +1,30 @@
+-- How large a sum, a difference and a product of whole numbers can be, on either side of zero.
+use mathlib.Core.Path.{_≡_, refl}
+use Prim.Native.Nat.{_*_, _+_, _≤_, suc, zero, ℕ}
+use native.Mathlib.Nat.{le-trans, mul-le-mul-left, mul-le-mul-right}
+use native.Mathlib.Omega.{arith}
+use lib.IntN.{_*ℤ_, _+ℤ_, _-ℤ_, natAbs, negsuc, negℤ, pos, ℤ}
+use Rattle.arithmetic.proofs.Difference.{_⊞_, abs-parts, at-parts, ⟨_⟩}
+
+pub abs-add : (a b : ℤ) → natAbs (a +ℤ b) ≤ natAbs a + natAbs b
+abs-add a b = omega (arith, abs-parts (a +ℤ b), abs-parts a, abs-parts b, at-parts (⟨ a ⟩ ⊞ ⟨ b ⟩))
+
+pub abs-neg : (a : ℤ) → natAbs (negℤ a) ≡ natAbs a
+abs-neg (pos zero) = refl
+abs-neg (pos (suc k)) = refl
+abs-neg (negsuc k) = refl
+
+pub abs-mul : (a b : ℤ) → natAbs (a *ℤ b) ≡ natAbs a * natAbs b
+abs-mul (pos i) (pos j) = refl
+abs-mul (pos i) (negsuc j) = abs-neg (pos (i * suc j))
+abs-mul (negsuc i) (pos j) = abs-neg (pos (suc i * j))
+abs-mul (negsuc i) (negsuc j) = refl
+
+pub add-bound : (v u : ℤ) {m n : ℕ} → natAbs v ≤ m → natAbs u ≤ n → natAbs (v +ℤ u) ≤ m + n
+add-bound v u h k = omega (arith, abs-add v u)
+
+pub sub-bound : (v u : ℤ) {m n : ℕ} → natAbs v ≤ m → natAbs u ≤ n → natAbs (v -ℤ u) ≤ m + n
+sub-bound v u h k = omega (arith, abs-add v (negℤ u), abs-neg u)
+
+pub mul-bound : (v u : ℤ) {m n : ℕ} → natAbs v ≤ m → natAbs u ≤ n → natAbs (v *ℤ u) ≤ m * n
+mul-bound v u {m} {n} h k = rw abs-mul (le-trans (mul-le-mul-left (natAbs v) k) (mul-le-mul-right n h))

@@ -1,0 +1,11 @@
+pub mod Machine
+pub mod WideProduct
+pub mod SineTableLaws
+pub mod SineSteps
+pub mod QuarterSine
+pub mod SineLaws
+pub mod SineNear
+pub mod SineSize
+pub mod RootLaws
+pub mod CalendarLaws
+pub mod ArctangentLaws

@@ -1,0 +1,12 @@
+-- `numbers::sine::table` meets its contract: the constant is the table of `specs/`.
+use mathlib.Core.Path.{refl}
+use Rattle.numbers.specs.SineTable.{sines}
+use Rattle.numbers.proofs.sine.table.Statement.{statement}
+use Rattle.numbers.proofs.sine.table.Tie as tie
+
+returns : tie.Need-returns
+unfolding sines
+returns c = refl
+
+pub table-spec : {M : Type 1} → statement M
+table-spec = tie.close (tie.spec returns)

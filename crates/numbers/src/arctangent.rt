@@ -1,0 +1,144 @@
+// The arctangent of a pair of numbers, as a reduced angle.
+use super::angle::Angle;
+ghost use mathlib.Core.Path.{_≡_};
+ghost use Prim.Native.Nat.{_≤_, _<_, _^_};
+ghost use mathlib.Core.List.{map};
+ghost use lib.IntN.{pos, natAbs};
+ghost use Rattle.numbers.specs.Angle.{reduced};
+ghost use Rattle.numbers.specs.ArctangentTable.{arctangents};
+ghost use Rattle.numbers.specs.Arctangent.{step, steps, start, arctangent};
+
+// The angles whose tangents are 1, 1/2, 1/4, ..
+const ARCTANGENTS: [i64; 30] = [
+    4_500_000_000,
+    2_656_505_118,
+    1_403_624_347,
+    712_501_635,
+    357_633_437,
+    178_991_061,
+    89_517_371,
+    44_761_417,
+    22_381_050,
+    11_190_568,
+    5_595_289,
+    2_797_645,
+    1_398_823,
+    699_411,
+    349_706,
+    174_853,
+    87_426,
+    43_713,
+    21_857,
+    10_928,
+    5_464,
+    2_732,
+    1_366,
+    683,
+    342,
+    171,
+    85,
+    43,
+    21,
+    11,
+];
+
+// What both numbers zero answer.
+const NO_DIRECTION: u64 = 0;
+
+// A pair that is turned towards the x axis, and the angle that it has been turned by.
+pub struct Turning {
+    pub x: i64,
+    pub y: i64,
+    pub angle: i64,
+}
+
+// One step, from the old pair.
+fn stepped(table: &[i64; 30], k: usize, s: Turning) -> Turning
+    requires { ⌜ (now table ≡ map pos arctangents) × (k < 30) × (natAbs (s .x) ≤ 2 ^ 60) × (natAbs (s .y) ≤ 2 ^ 60) × (natAbs (s .angle) ≤ 2 ^ 60) ⌝ }
+    ensures { λ r. ⌜ r ≡ step k s ⌝ }
+{
+    let x = s.x;
+    let y = s.y;
+    let a = s.angle;
+    let t = table[k];
+    let dx = y >> k;
+    let dy = x >> k;
+    if y > 0 {
+        Turning {
+            x: x + dx,
+            y: y - dy,
+            angle: a + t,
+        }
+    } else if y < 0 {
+        Turning {
+            x: x - dx,
+            y: y + dy,
+            angle: a - t,
+        }
+    } else {
+        s
+    }
+}
+
+// All thirty steps.
+fn turned(s: Turning) -> Turning
+    requires { ⌜ (natAbs (s .x) ≤ 2 ^ 50) × (natAbs (s .y) ≤ 2 ^ 50) × (natAbs (s .angle) ≤ 2 ^ 50) ⌝ }
+    ensures { λ r. ⌜ r ≡ steps 30 s ⌝ }
+{
+    let table = ARCTANGENTS;
+    let mut r = s;
+    let mut k: usize = 0;
+    while k < 30 {
+        r = stepped(&table, k, r);
+        k += 1;
+    }
+    r
+}
+
+// Both numbers times 1024, in the right half plane, with the angle to start at.
+fn started(y: i64, x: i64) -> Turning
+    requires { ⌜ (natAbs y ≤ 2 ^ 40) × (natAbs x ≤ 2 ^ 40) ⌝ }
+    ensures { λ r. ⌜ r ≡ start y x ⌝ }
+{
+    let xs = x * 1024;
+    let ys = y * 1024;
+    if x < 0 {
+        Turning {
+            x: -xs,
+            y: -ys,
+            angle: Angle::HALF as i64,
+        }
+    } else {
+        Turning {
+            x: xs,
+            y: ys,
+            angle: 0,
+        }
+    }
+}
+
+// The direction of a pair that has one.
+fn direction(y: i64, x: i64) -> Angle
+    requires { ⌜ (natAbs y ≤ 2 ^ 40) × (natAbs x ≤ 2 ^ 40) ⌝ }
+    ensures { λ r. ⌜ r .units ≡ reduced (steps 30 (start y x) .angle) ⌝ }
+{
+    let t = turned(started(y, x));
+    let a = t.angle;
+    Angle::new(a)
+}
+
+// From the x axis towards the y axis; each number at most 2⁴⁰ on either side of zero.
+pub fn arctangent(y: i64, x: i64) -> Angle
+    requires { ⌜ (natAbs y ≤ 2 ^ 40) × (natAbs x ≤ 2 ^ 40) ⌝ }
+    ensures { λ r. ⌜ r .units ≡ arctangent y x ⌝ }
+{
+    if y == 0 {
+        if x == 0 {
+            return Angle {
+                units: NO_DIRECTION,
+            };
+        }
+        return direction(y, x);
+    }
+    direction(y, x)
+}

@@ -1,0 +1,7 @@
+// Numbers and angles: floors, sine, arctangent, root and the day count, each equal to its rule.
+pub mod angle;
+pub mod arctangent;
+pub mod calendar;
+pub mod root;
+pub mod sine;
+pub mod whole;
