@@ -1,26 +1,31 @@
 -- The arctangent: its table's rule at each entry, which case a test of the sign leaves, and how large the numbers grow.
 use mathlib.Core.Bool.{Bool, _&&_, cond, false, true}
-use mathlib.Core.Path.{_∙_, _≡_, refl, subst, subst₂, sym}
+use mathlib.Core.List.{[], _∷_}
+use mathlib.Core.Path.{_∙_, _≡_, refl, subst, subst⁻¹, subst₂, sym}
 use Prim.Native.Nat.{_*_, _+_, _/_, _<_, _^_, _≤_, suc, zero, ℕ}
 use native.Mathlib.Decide.{le-ind}
-use native.Mathlib.Nat.{le-refl, le-trans}
+use native.Mathlib.Nat.{le-refl, le-trans, mul-le-mul-right}
 use native.Mathlib.Omega.{arith}
 use lib.Dec.{T, eqb, leb, leb→le, lit<, lit≤, ltb→lt}
 use lib.IntN.{_*ℤ_, _+ℤ_, _-ℤ_, natAbs, negsuc, negℤ, pos, ℤ}
-use lib.Signed.{_<ℤ_, _≤ℤ_}
+use lib.Signed.{_<ℤ_, _≤ℤ_, leZ}
 use mir.Facts.{and-yes}
-use borrow.Author.Tests.{ne-eqb}
+use borrow.Author.Tests.{le-leb, lt-leb, ne-eqb}
 use Rattle.arithmetic.specs.Floor.{⌊_÷_⌋}
+use Rattle.arithmetic.proofs.Difference.{abs-parts, to-le, to-lt, ⟨_⟩}
 use Rattle.arithmetic.proofs.FloorLaws.{floor-most}
-use Rattle.arithmetic.proofs.Sizes.{abs-neg, add-bound, mul-bound, sub-bound}
+use Rattle.arithmetic.proofs.Integers.{solveℤ}
+use Rattle.arithmetic.proofs.Sizes.{abs-mul, abs-neg, add-bound, mul-bound, sub-bound}
+use Rattle.arithmetic.proofs.Solver.{_:*_, _:+_, _:-_, con, k0, k1, x0, x1}
 use Rattle.arithmetic.proofs.Table.{at, every}
 use Rattle.exact.specs.Fraction.{_*q_, _+q_, _-q_, _over_, _≤q_, floor, inv, nat, negq, nn, whole, ℚ}
 use Rattle.exact.specs.Reference.{cos°, sin°}
 use Rattle.exact.proofs.Horner.{cos-horner, cos₄₀-is, horner, sin-horner, sin₄₀-is}
 use Rattle.exact.proofs.ReferenceLaws.{cosine-reference, plain, plain-is, radian, sine-reference}
 use Rattle.numbers.specs.Angle.{full-turn, half-turn, reduced}
-use Rattle.numbers.specs.Arctangent.{arctangent, by-sign, no-direction, start, step, steps, turn-by}
+use Rattle.numbers.specs.Arctangent.{arctangent, no-direction, start, step, steps, turn-by}
 use Rattle.numbers.specs.ArctangentTable.{NearestArctangent, arctangents}
+use Rattle.numbers.specs.Whole.{by-sign, sign}
 use Rattle.numbers.specs.declared.arctangent.Turning.{Turning}
 use Rattle.numbers.proofs.SineLaws.{reduced-below}
 
@@ -75,10 +80,7 @@ module _ (k : ℕ) (h : k < 30) where
   unfolding arctangents small-test
   turn-small = leb→le (turn-by k) 4_500_000_000 (at small-test 0 arctangents tt k (omega arith))
 
--- ---- the case of a sign
-never : true ≡ false → ⊥
-never p = subst T p tt
-
+-- ---- a step as the code takes it: by the sign of y, with no case
 module _ {A : Type 0} (p z n : A) where
   pub sign-above : (y : ℤ) → pos 0 <ℤ y → by-sign y p z n ≡ p
   sign-above (pos zero) h = absurd (none (ltb→lt 0 0 (h .lt)))
@@ -103,11 +105,49 @@ module _ {A : Type 0} (p z n : A) where
       none m h = omega arith
   sign-zero (negsuc m) h l = absurd (l .le)
 
-  -- what holds in each case holds of the choice
-  sign-all : (P : A → Type 0) (y : ℤ) → P p → P z → P n → P (by-sign y p z n)
-  sign-all P (pos zero) a b c = b
-  sign-all P (pos (suc m)) a b c = a
-  sign-all P (negsuc m) a b c = c
+pub sign-small : (y : ℤ) → natAbs (sign y) ≤ 1
+sign-small (pos zero) = lit≤ tt
+sign-small (pos (suc m)) = lit≤ tt
+sign-small (negsuc m) = lit≤ tt
+
+pub step-signed : (k : ℕ) (s : Turning)
+    → step k s ≡ record { x = s .x +ℤ sign (s .y) *ℤ ⌊ s .y ÷ 2 ^ k ⌋; y = s .y -ℤ sign (s .y) *ℤ ⌊ s .x ÷ 2 ^ k ⌋; angle = s .angle +ℤ sign (s .y) *ℤ pos (turn-by k) }
+unfolding step
+step-signed k s = go (s .y)
+  where
+    dx : ℤ
+    dx = ⌊ s .y ÷ 2 ^ k ⌋
+
+    dy : ℤ
+    dy = ⌊ s .x ÷ 2 ^ k ⌋
+
+    t : ℤ
+    t = pos (turn-by k)
+
+    none : (a b : ℤ) → a ≡ a +ℤ pos 0 *ℤ b
+    none a b = solveℤ x0 (x0 :+ k0 :* x1) (a ∷ b ∷ []) tt
+
+    none′ : (a b : ℤ) → a ≡ a -ℤ pos 0 *ℤ b
+    none′ a b = solveℤ x0 (x0 :- k0 :* x1) (a ∷ b ∷ []) tt
+
+    one : (a b : ℤ) → a +ℤ b ≡ a +ℤ pos 1 *ℤ b
+    one a b = solveℤ (x0 :+ x1) (x0 :+ k1 :* x1) (a ∷ b ∷ []) tt
+
+    one′ : (a b : ℤ) → a -ℤ b ≡ a -ℤ pos 1 *ℤ b
+    one′ a b = solveℤ (x0 :- x1) (x0 :- k1 :* x1) (a ∷ b ∷ []) tt
+
+    less : (a b : ℤ) → a -ℤ b ≡ a +ℤ negsuc 0 *ℤ b
+    less a b = solveℤ (x0 :- x1) (x0 :+ con (negsuc 0) :* x1) (a ∷ b ∷ []) tt
+
+    less′ : (a b : ℤ) → a +ℤ b ≡ a -ℤ negsuc 0 *ℤ b
+    less′ a b = solveℤ (x0 :+ x1) (x0 :- con (negsuc 0) :* x1) (a ∷ b ∷ []) tt
+
+    go : (y : ℤ) → _≡_ {A = Turning}
+        (by-sign y (record { x = s .x +ℤ dx; y = s .y -ℤ dy; angle = s .angle +ℤ t }) s (record { x = s .x -ℤ dx; y = s .y +ℤ dy; angle = s .angle -ℤ t }))
+        (record { x = s .x +ℤ sign y *ℤ dx; y = s .y -ℤ sign y *ℤ dy; angle = s .angle +ℤ sign y *ℤ t })
+    go (pos zero) = λ i. record { x = none (s .x) dx i; y = none′ (s .y) dy i; angle = none (s .angle) t i }
+    go (pos (suc m)) = λ i. record { x = one (s .x) dx i; y = one′ (s .y) dy i; angle = one (s .angle) t i }
+    go (negsuc m) = λ i. record { x = less (s .x) dx i; y = less′ (s .y) dy i; angle = less (s .angle) t i }
 
 pub start-left : (y : ℤ) {x : ℤ} → x <ℤ pos 0 → _≡_ {A = Turning} (record { x = negℤ (x *ℤ pos 1024); y = negℤ (y *ℤ pos 1024); angle = pos half-turn }) (start y x)
 unfolding start
@@ -128,13 +168,18 @@ pub record Sized (b a : ℕ) (s : Turning) : Type 0 where
   pub y-size : natAbs (s .y) ≤ b
   pub angle-size : natAbs (s .angle) ≤ a
 
+-- the sign times a number is no larger
+pub signed-small : (y z : ℤ) {m : ℕ} → natAbs z ≤ m → natAbs (sign y *ℤ z) ≤ m
+signed-small y z {m} h = rw abs-mul (omega (arith, mul-le-mul-right (natAbs z) (sign-small y)))
+
 step-sized : (k b a : ℕ) (s : Turning) → k < 30 → Sized b a s → Sized (b + (b / 2 ^ k + 1)) (a + 4_500_000_000) (step k s)
-unfolding step
 step-sized k b a s h p =
-    sign-all _ _ _ (Sized (b + (b / 2 ^ k + 1)) (a + 4_500_000_000)) (s .y)
-    (record { x-size = add-bound (s .x) dx (p .x-size) dx-size; y-size = sub-bound (s .y) dy (p .y-size) dy-size; angle-size = add-bound (s .angle) t (p .angle-size) (turn-small k h) })
-    (record { x-size = more (p .x-size); y-size = more (p .y-size); angle-size = angle-more (p .angle-size) })
-    (record { x-size = sub-bound (s .x) dx (p .x-size) dx-size; y-size = add-bound (s .y) dy (p .y-size) dy-size; angle-size = sub-bound (s .angle) t (p .angle-size) (turn-small k h) })
+    subst⁻¹ (Sized (b + (b / 2 ^ k + 1)) (a + 4_500_000_000)) (step-signed k s)
+    (record {
+      x-size = add-bound (s .x) (sign (s .y) *ℤ dx) (p .x-size) (signed-small (s .y) dx (floor-most (s .y) (2 ^ k) b (p .y-size)));
+      y-size = sub-bound (s .y) (sign (s .y) *ℤ dy) (p .y-size) (signed-small (s .y) dy (floor-most (s .x) (2 ^ k) b (p .x-size)));
+      angle-size = add-bound (s .angle) (sign (s .y) *ℤ t) (p .angle-size) (signed-small (s .y) t (turn-small k h));
+    })
   where
     dx : ℤ
     dx = ⌊ s .y ÷ 2 ^ k ⌋
@@ -145,58 +190,46 @@ step-sized k b a s h p =
     t : ℤ
     t = pos (turn-by k)
 
-    dx-size : natAbs dx ≤ b / 2 ^ k + 1
-    dx-size = floor-most (s .y) (2 ^ k) b (p .y-size)
+-- the bound after k steps
+bound : ℕ → ℕ → ℕ
+bound b zero = b
+bound b (suc k) = bound b k + (bound b k / 2 ^ k + 1)
 
-    dy-size : natAbs dy ≤ b / 2 ^ k + 1
-    dy-size = floor-most (s .x) (2 ^ k) b (p .x-size)
-
-    more : {n : ℕ} → n ≤ b → n ≤ b + (b / 2 ^ k + 1)
-    more q = omega arith
-
-    angle-more : {n : ℕ} → n ≤ a → n ≤ a + 4_500_000_000
-    angle-more q = omega arith
-
--- the bound after k steps, from 2⁵⁰
-bound : ℕ → ℕ
-bound zero = 2 ^ 50
-bound (suc k) = bound k + (bound k / 2 ^ k + 1)
-
-bound-mono : (k m : ℕ) → k ≤ m → bound k ≤ bound m
+bound-mono : (b k m : ℕ) → k ≤ m → bound b k ≤ bound b m
 unfolding bound
-bound-mono k m h = le-ind (λ (m : ℕ). bound k ≤ bound m) (le-refl (bound k)) (λ m _ ih. le-trans ih (more (bound m) (bound m / 2 ^ m))) m h
+bound-mono b k m h = le-ind (λ (m : ℕ). bound b k ≤ bound b m) (le-refl (bound b k)) (λ m _ ih. le-trans ih (more (bound b m) (bound b m / 2 ^ m))) m h
   where
     more : (x y : ℕ) → x ≤ x + (y + 1)
     more x y = omega arith
 
-bound-fits : (k : ℕ) → k ≤ 30 → bound k ≤ 2 ^ 60
-bound-fits k h = le-trans (bound-mono k 30 h) last
-  where
-    last : bound 30 ≤ 2 ^ 60
-    last = lit≤ (unfold bound in tt)
-
-steps-bounded : (k a : ℕ) (s : Turning) → k ≤ 30 → Sized (2 ^ 50) a s → Sized (bound k) (a + k * 4_500_000_000) (steps k s)
+steps-bounded : (b k a : ℕ) (s : Turning) → k ≤ 30 → Sized b a s → Sized (bound b k) (a + k * 4_500_000_000) (steps k s)
 unfolding steps bound
-steps-bounded zero a s h p = subst (λ (n : ℕ). Sized (2 ^ 50) n s) (same a) p
+steps-bounded b zero a s h p = subst (λ (n : ℕ). Sized b n s) (same a) p
   where
     same : (a : ℕ) → a ≡ a + 0 * 4_500_000_000
     same a = omega arith
-steps-bounded (suc k) a s h p =
-    subst (λ (n : ℕ). Sized (bound k + (bound k / 2 ^ k + 1)) n (step k (steps k s))) (next a k)
-    (step-sized k (bound k) (a + k * 4_500_000_000) (steps k s) h (steps-bounded k a s (omega arith) p))
+steps-bounded b (suc k) a s h p =
+    subst (λ (n : ℕ). Sized (bound b k + (bound b k / 2 ^ k + 1)) n (step k (steps k s))) (next a k)
+    (step-sized k (bound b k) (a + k * 4_500_000_000) (steps k s) h (steps-bounded b k a s (omega arith) p))
   where
     next : (a k : ℕ) → a + k * 4_500_000_000 + 4_500_000_000 ≡ a + suc k * 4_500_000_000
     next a k = omega arith
 
--- no step leaves a number above 2⁶⁰
-pub steps-sized : (k : ℕ) (s : Turning) → k ≤ 30 → Sized (2 ^ 50) (2 ^ 50) s → Sized (2 ^ 60) (2 ^ 60) (steps k s)
-steps-sized k s h p =
-    let q = steps-bounded k (2 ^ 50) s h p in
-    let l = bound-fits k h in
-    record { x-size = le-trans (q .x-size) l; y-size = le-trans (q .y-size) l; angle-size = omega (arith, q .angle-size) }
+-- from b no step leaves a number above m
+steps-sized : (b m k : ℕ) (s : Turning) → bound b 30 ≤ m → k ≤ 30 → Sized b (2 ^ 50) s → Sized m (2 ^ 60) (steps k s)
+steps-sized b m k s l h p =
+    let q = steps-bounded b k (2 ^ 50) s h p in
+    let n = le-trans (bound-mono b k 30 h) l in
+    record { x-size = le-trans (q .x-size) n; y-size = le-trans (q .y-size) n; angle-size = omega (arith, q .angle-size) }
 
--- the first pair: both numbers at most 2⁴⁰, times 1024
-pub start-sized : (y x : ℤ) → natAbs y ≤ 2 ^ 40 → natAbs x ≤ 2 ^ 40 → Sized (2 ^ 50) (2 ^ 50) (start y x)
+pub narrow-sized : (k : ℕ) (s : Turning) → k ≤ 30 → Sized (2 ^ 50) (2 ^ 50) s → Sized (2 ^ 60) (2 ^ 60) (steps k s)
+narrow-sized k s = steps-sized (2 ^ 50) (2 ^ 60) k s (lit≤ (unfold bound in tt))
+
+pub wide-sized : (k : ℕ) (s : Turning) → k ≤ 30 → Sized (2 ^ 73) (2 ^ 50) s → Sized (2 ^ 82) (2 ^ 60) (steps k s)
+wide-sized k s = steps-sized (2 ^ 73) (2 ^ 82) k s (lit≤ (unfold bound in tt))
+
+-- the first pair: both numbers times 1024
+pub start-sized : (y x : ℤ) {m : ℕ} → natAbs y ≤ m → natAbs x ≤ m → Sized (m * 1024) (2 ^ 50) (start y x)
 unfolding start
 start-sized y (pos n) h k = record { x-size = mul-bound (pos n) (pos 1024) k (le-refl 1024); y-size = mul-bound y (pos 1024) h (le-refl 1024); angle-size = lit≤ tt }
 start-sized y (negsuc n) h k = record {
@@ -221,3 +254,14 @@ arctangent-below y x = go (eqb (natAbs y + natAbs x) 0)
     go : (b : Bool) → cond b no-direction (reduced (steps 30 (start y x) .angle)) < full-turn
     go true = lit< tt
     go false = reduced-below (steps 30 (start y x) .angle)
+
+-- ---- a small number: at most 2⁴⁰ on either side of zero
+abbrev least : ℤ
+least = negsuc 1_099_511_627_775
+
+pub small-below : (z : ℤ) → z <ℤ least → leb (natAbs z) (2 ^ 40) ≡ false
+small-below z h = lt-leb (natAbs z) (2 ^ 40) (omega (arith, to-lt ⟨ z ⟩ ⟨ least ⟩ h, abs-parts z))
+
+pub small-above : (z : ℤ) → least ≤ℤ z → leZ z (pos (2 ^ 40)) ≡ leb (natAbs z) (2 ^ 40)
+small-above (pos n) h = refl
+small-above (negsuc n) h = sym (le-leb (suc n) (2 ^ 40) (omega (arith, to-le ⟨ least ⟩ ⟨ negsuc n ⟩ h)))

@@ -9,3 +9,4 @@ pub mod SineSize
 pub mod RootLaws
 pub mod CalendarLaws
 pub mod ArctangentLaws
+pub mod LimbLaws

@@ -6,18 +6,13 @@ use lib.IntN.{ℤ, pos, negsuc, negℤ, natAbs, _+ℤ_, _-ℤ_, _*ℤ_}
 use lib.ListN.{getD}
 use Rattle.arithmetic.specs.Floor.{⌊_÷_⌋}
 use Rattle.numbers.specs.declared.arctangent.Turning.{Turning}
+use Rattle.numbers.specs.Whole.{by-sign}
 use Rattle.numbers.specs.Angle.{half-turn, reduced}
 use Rattle.numbers.specs.ArctangentTable.{arctangents}
 
 -- tₖ
 abbrev pub turn-by : ℕ → ℕ
 turn-by k = getD arctangents k 0
-
--- by the sign of a number: above zero, zero, below zero
-abbrev pub by-sign : {A : Type 0} → ℤ → A → A → A → A
-by-sign (pos zero) above at below = at
-by-sign (pos (suc n)) above at below = above
-by-sign (negsuc n) above at below = below
 
 -- step k, from the old pair
 unfoldable pub step : ℕ → Turning → Turning

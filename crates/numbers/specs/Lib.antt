@@ -4,5 +4,6 @@ pub mod SineTable
 pub mod Sine
 pub mod ArctangentTable
 pub mod Arctangent
+pub mod Limbs
 pub mod Root
 pub mod Calendar

@@ -1,8 +1,19 @@
--- The range in which the wide product ⌊c n / d⌋ is worked in 64 bits: every product of 01 that passes 64 bits lies in it, also in milliseconds.
-use Prim.Native.Nat.{ℕ, _^_, _≤_, _<_}
-use lib.IntN.{ℤ, natAbs, _*ℤ_}
+-- Whole numbers: the sign, and the range of the wide product.
+use Prim.Native.Nat.{ℕ, zero, suc, _^_, _≤_, _<_}
+use lib.IntN.{ℤ, pos, negsuc, natAbs, _*ℤ_}
 use Rattle.arithmetic.specs.Floor.{⌊_÷_⌋}
 
+-- by the sign of a number: above zero, zero, below zero
+abbrev pub by-sign : {A : Type 0} → ℤ → A → A → A → A
+by-sign (pos zero) above at below = at
+by-sign (pos (suc n)) above at below = above
+by-sign (negsuc n) above at below = below
+
+-- 1, 0 or -1
+abbrev pub sign : ℤ → ℤ
+sign y = by-sign y (pos 1) (pos 0) (negsuc 0)
+
+-- ⌊c n / d⌋ is worked in 64 bits where this holds: every product of 01 that passes 64 bits lies here, also in milliseconds
 pub record MulDiv (c n : ℤ) (d : ℕ) : Type 0 where
   pub factor : natAbs c ≤ 2 ^ 46
   pub time : natAbs n ≤ 2 ^ 42

@@ -1,15 +1,18 @@
 // The arctangent of a pair of numbers, as a reduced angle.
 use super::angle::Angle;
+use super::whole::sign_of;
+use super::wide_arctangent::wide_direction;
 ghost use mathlib.Core.Path.{_≡_};
 ghost use Prim.Native.Nat.{_≤_, _<_, _^_};
 ghost use mathlib.Core.List.{map};
+ghost use lib.Dec.{leb};
 ghost use lib.IntN.{pos, natAbs};
 ghost use Rattle.numbers.specs.Angle.{reduced};
 ghost use Rattle.numbers.specs.ArctangentTable.{arctangents};
 ghost use Rattle.numbers.specs.Arctangent.{step, steps, start, arctangent};
 
 // The angles whose tangents are 1, 1/2, 1/4, ..
-const ARCTANGENTS: [i64; 30] = [
+pub const ARCTANGENTS: [i64; 30] = [
     4_500_000_000,
     2_656_505_118,
     1_403_624_347,
@@ -52,7 +55,7 @@ pub struct Turning {
     pub angle: i64,
 }
 
-// One step, from the old pair.
+// One step, from the old pair: by the sign of y, with no branch.
 fn stepped(table: &[i64; 30], k: usize, s: Turning) -> Turning
     requires { ⌜ (now table ≡ map pos arctangents) × (k < 30) × (natAbs (s .x) ≤ 2 ^ 60) × (natAbs (s .y) ≤ 2 ^ 60) × (natAbs (s .angle) ≤ 2 ^ 60) ⌝ }
     ensures { λ r. ⌜ r ≡ step k s ⌝ }
@@ -60,23 +63,13 @@ fn stepped(table: &[i64; 30], k: usize, s: Turning) -> Turning
     let x = s.x;
     let y = s.y;
     let a = s.angle;
-    let t = table[k];
+    let c = sign_of(y);
     let dx = y >> k;
     let dy = x >> k;
-    if y > 0 {
-        Turning {
-            x: x + dx,
-            y: y - dy,
-            angle: a + t,
-        }
-    } else if y < 0 {
-        Turning {
-            x: x - dx,
-            y: y + dy,
-            angle: a - t,
-        }
-    } else {
-        s
+    Turning {
+        x: x + c * dx,
+        y: y - c * dy,
+        angle: a + c * table[k],
     }
 }
 
@@ -117,8 +110,18 @@ fn started(y: i64, x: i64) -> Turning
     }
 }
 
-// The direction of a pair that has one.
-fn direction(y: i64, x: i64) -> Angle
+// At most 2⁴⁰ on either side of zero, as every number of the sky is.
+fn is_small(z: i64) -> bool
+    ensures { λ r. ⌜ r ≡ leb (natAbs z) (2 ^ 40) ⌝ }
+{
+    if z < -1_099_511_627_776 {
+        return false;
+    }
+    z <= 1_099_511_627_776
+}
+
+// The direction of a small pair.
+fn narrow_direction(y: i64, x: i64) -> Angle
     requires { ⌜ (natAbs y ≤ 2 ^ 40) × (natAbs x ≤ 2 ^ 40) ⌝ }
     ensures { λ r. ⌜ r .units ≡ reduced (steps 30 (start y x) .angle) ⌝ }
 {
@@ -127,9 +130,21 @@ fn direction(y: i64, x: i64) -> Angle
     Angle::new(a)
 }
 
-// From the x axis towards the y axis; each number at most 2⁴⁰ on either side of zero.
+// The direction of a pair that has one.
+fn direction(y: i64, x: i64) -> Angle
+    ensures { λ r. ⌜ r .units ≡ reduced (steps 30 (start y x) .angle) ⌝ }
+{
+    if is_small(y) {
+        if is_small(x) {
+            return narrow_direction(y, x);
+        }
+        return wide_direction(y, x);
+    }
+    wide_direction(y, x)
+}
+
+// From the x axis towards the y axis, for any two numbers.
 pub fn arctangent(y: i64, x: i64) -> Angle
-    requires { ⌜ (natAbs y ≤ 2 ^ 40) × (natAbs x ≤ 2 ^ 40) ⌝ }
     ensures { λ r. ⌜ r .units ≡ arctangent y x ⌝ }
 {
     if y == 0 {

@@ -2,6 +2,8 @@
 pub mod angle;
 pub mod arctangent;
 pub mod calendar;
+mod limbs;
 pub mod root;
 pub mod sine;
 pub mod whole;
+mod wide_arctangent;

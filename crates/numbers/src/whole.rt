@@ -4,7 +4,20 @@ ghost use Prim.Native.Nat.{_<_, _^_};
 ghost use lib.IntN.{pos, _*ℤ_};
 ghost use lib.Signed.{mag};
 ghost use Rattle.arithmetic.specs.Floor.{⌊_÷_⌋, _modulo_};
-ghost use Rattle.numbers.specs.Whole.{MulDiv};
+ghost use Rattle.numbers.specs.Whole.{sign, MulDiv};
+
+// 1, 0 or -1.
+pub fn sign_of(z: i64) -> i64
+    ensures { λ r. ⌜ r ≡ sign z ⌝ }
+{
+    if z > 0 {
+        1
+    } else if z < 0 {
+        -1
+    } else {
+        0
+    }
+}
 
 // n for n, and n for -1 - n: what a floor divides on either side of zero.
 fn magnitude(a: i64) -> u64

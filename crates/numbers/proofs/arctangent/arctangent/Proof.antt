@@ -5,10 +5,11 @@ use native.Mathlib.Omega.{arith}
 use lib.IntN.{natAbs}
 use mir.Syntax.{w64}
 use mir.Val.{ofZ, toZ}
+use borrow.Author.Needs.{needs}
 use Rattle.numbers.specs.Angle.{reduced}
 use Rattle.numbers.specs.Arctangent.{arctangent, start, steps}
 use Rattle.numbers.proofs.ArctangentLaws.{both-zero, not-both}
-use Rattle.numbers.proofs.Machine.{any, handed, is-zero, not-zero}
+use Rattle.numbers.proofs.Machine.{any, is-zero, not-zero}
 use Rattle.numbers.proofs.arctangent.arctangent.Statement.{statement}
 use Rattle.numbers.proofs.arctangent.arctangent.Tie as tie
 
@@ -23,15 +24,15 @@ returns c =
     let s = c .before .before in sym (both-zero (is-zero (s .fits .y) (c .before .if1 .taken)) (is-zero (s .fits .x) (c .if2 .taken)))
 
 direction-requires : tie.Need-direction-requires
-direction-requires c κs = let s = c .before .before in (handed (s .fits .y) (s .pre .0), handed (s .fits .x) (s .pre .1))
-
-direction-requires-2 : tie.Need-direction-requires-2
-direction-requires-2 c κs = let s = c .before in (handed (s .fits .y) (s .pre .0), handed (s .fits .x) (s .pre .1))
+direction-requires c κs = search needs
 
 returns-2 : tie.Need-returns-2
 returns-2 c =
     let s = c .before .before .before in
     is-arctangent s (c .direction .result .units) (c .direction .ensures) (omega (arith, not-zero (s .args .x) (c .before .if2 .left)))
+
+direction-requires-2 : tie.Need-direction-requires-2
+direction-requires-2 c κs = search needs
 
 returns-3 : tie.Need-returns-3
 returns-3 c =

@@ -1,48 +1,46 @@
 -- `numbers::arctangent::direction` meets its contract.
-use mathlib.Core.Path.{_∙_, _≡_, ap, refl, subst⁻¹}
-use Prim.Native.Nat.{_^_, _≤_}
-use lib.Dec.{lit≤}
-use lib.IntN.{natAbs}
+use mathlib.Core.Path.{_∙_, _≡_, sym}
+use Prim.Native.Nat.{ℕ}
+use mir.Syntax.{w64}
+use mir.Val.{ofZ, toZ}
 use borrow.Author.Needs.{needs}
+use borrow.Author.Tests.{leb-true}
 use Rattle.numbers.specs.Angle.{reduced}
 use Rattle.numbers.specs.Arctangent.{start, steps}
-use Rattle.numbers.specs.declared.arctangent.Turning.{Turning}
-use Rattle.numbers.proofs.ArctangentLaws.{Sized, start-sized, steps-sized}
-use Rattle.numbers.proofs.Machine.{any, handed, told}
+use Rattle.numbers.proofs.Machine.{any}
 use Rattle.numbers.proofs.arctangent.direction.Statement.{statement}
 use Rattle.numbers.proofs.arctangent.direction.Tie as tie
 
-started-requires : tie.Need-started-requires
-started-requires c κs = (handed (c .fits .y) (c .pre .0), handed (c .fits .x) (c .pre .1))
+-- a direction at the parameters, as a callee gave it
+module _ (s : tie.Start) (u : ℕ) (e : u ≡ reduced (steps 30 (start (toZ w64 (ofZ w64 (s .args .y))) (toZ w64 (ofZ w64 (s .args .x)))) .angle)) where
+  is-direction : u ≡ reduced (steps 30 (start (s .args .y) (s .args .x)) .angle)
+  is-direction = e ∙ (λ i. reduced (steps 30 (start (any (s .fits .y) .same i) (any (s .fits .x) .same i)) .angle))
 
-module _ (c : tie.After-started) where
-  abbrev s : tie.Start
-  s = c .before
+is-small-requires : tie.Need-is-small-requires
+is-small-requires c κs = search needs
 
-  start-is : c .started .result ≡ start (s .args .y) (s .args .x)
-  start-is = c .started .ensures ∙ (λ i. start (any (s .fits .y) .same i) (any (s .fits .x) .same i))
+is-small-requires-2 : tie.Need-is-small-requires-2
+is-small-requires-2 c κs = search needs
 
-  start-small : Sized (2 ^ 50) (2 ^ 50) (c .started .result)
-  start-small = subst⁻¹ (Sized (2 ^ 50) (2 ^ 50)) start-is (start-sized (s .args .y) (s .args .x) (s .pre .0) (s .pre .1))
-
-module _ (c : tie.After-turned) where
-  turned-is : c .turned .result ≡ steps 30 (start (s (c .before) .args .y) (s (c .before) .args .x))
-  turned-is = c .turned .ensures ∙ ap (steps 30) (start-is (c .before))
-
-  angle-small : natAbs (c .turned .result .angle) ≤ 2 ^ 60
-  angle-small =
-      subst⁻¹ (λ (t : Turning). natAbs (t .angle) ≤ 2 ^ 60) (c .turned .ensures) (steps-sized 30 (c .before .started .result) (lit≤ tt) (start-small (c .before)) .angle-size)
-
-turned-requires : tie.Need-turned-requires
-turned-requires c κs = (start-small c .x-size, start-small c .y-size, start-small c .angle-size)
-
-new-requires : tie.Need-new-requires
-new-requires c κs = search needs
+narrow-direction-requires : tie.Need-narrow-direction-requires
+narrow-direction-requires c κs =
+    let b = c .before in
+    (leb-true _ _ (sym (b .before .before .is-small .ensures) ∙ b .before .if1 .taken), leb-true _ _ (sym (b .is-small2 .ensures) ∙ c .if2 .taken))
 
 returns : tie.Need-returns
-returns c =
-    c .new .ensures
-    ∙ ap reduced (told {r = c .before .before .turned .result .angle} refl (angle-small (c .before .before)) tt .same ∙ ap (λ (t : Turning). t .angle) (turned-is (c .before .before)))
+returns c = is-direction (c .before .before .before .before .before) (c .narrow-direction .result .units) (c .narrow-direction .ensures)
+
+wide-direction-requires : tie.Need-wide-direction-requires
+wide-direction-requires c κs = search needs
+
+returns-2 : tie.Need-returns-2
+returns-2 c = is-direction (c .before .before .before .before .before) (c .wide-direction .result .units) (c .wide-direction .ensures)
+
+wide-direction-requires-2 : tie.Need-wide-direction-requires-2
+wide-direction-requires-2 c κs = search needs
+
+returns-3 : tie.Need-returns-3
+returns-3 c = is-direction (c .before .before .before) (c .wide-direction2 .result .units) (c .wide-direction2 .ensures)
 
 pub direction-spec : {M : Type 1} → statement M
-direction-spec = tie.close (tie.spec started-requires turned-requires new-requires returns)
+direction-spec = tie.close (tie.spec is-small-requires is-small-requires-2 narrow-direction-requires returns wide-direction-requires returns-2 wide-direction-requires-2 returns-3)

@@ -8,14 +8,18 @@ use lib.IntN.{pos, ℤ}
 use lib.ListN.{List·getD-map, getD}
 use borrow.Author.Needs.{needs}
 use Rattle.arithmetic.proofs.FloorLaws.{floor-small}
-use Rattle.numbers.specs.Arctangent.{step, turn-by}
+use Rattle.numbers.specs.Arctangent.{turn-by}
 use Rattle.numbers.specs.ArctangentTable.{arctangents}
-use Rattle.numbers.proofs.ArctangentLaws.{sign-above, sign-below, sign-zero, turn-small}
-use Rattle.numbers.proofs.Machine.{Mirror, _⊕_, _⊖_, bounded, fits, kept, less, lit, not-less, shr-by, told}
+use Rattle.numbers.specs.Whole.{sign}
+use Rattle.numbers.proofs.ArctangentLaws.{sign-small, step-signed, turn-small}
+use Rattle.numbers.proofs.Machine.{Mirror, _⊕_, _⊖_, _⊗_, bounded, fits, gave, kept, shr-by, told}
 use Rattle.numbers.proofs.arctangent.stepped.Statement.{statement}
 use Rattle.numbers.proofs.arctangent.stepped.Tie as tie
 
-module _ (s : tie.Start) where
+module _ (c₀ : tie.After-sign-of) where
+  abbrev s : tie.Start
+  s = c₀ .before .before .before .before
+
   abbrev k : ℕ
   k = s .args .k
 
@@ -28,6 +32,9 @@ module _ (s : tie.Start) where
   abbrev angle : Mirror
   angle = told {r = s .args .s .angle} refl (s .pre .4) tt
 
+  abbrev c : Mirror
+  c = gave (c₀ .sign-of .ok) (c₀ .sign-of .ensures ∙ ap sign (y .same)) (sign-small (s .args .s .y))
+
   t-is : getD (s .args .table .now) k (pos 0) ≡ pos (turn-by k)
   t-is = ap (λ (xs : List ℤ). getD xs k (pos 0)) (s .pre .0) ∙ List·getD-map pos arctangents k 0
 
@@ -38,17 +45,18 @@ module _ (s : tie.Start) where
   abbrev shifted : (z : Mirror) → T (ltb (z .most) (2 ^ 63)) → Mirror
   shifted z b = kept (bounded (shr-by z (2 ^ k)) (le-trans (floor-small (z .number) (2 ^ k)) (z .bound))) b
 
+  -- the sign times it
   abbrev dx : Mirror
-  dx = shifted y tt
+  dx = c ⊗ shifted y tt
 
   abbrev dy : Mirror
-  dy = shifted x tt
+  dy = c ⊗ shifted x tt
 
-mul-t : tie.Need-mul-t
-mul-t c = search needs
+  abbrev turn : Mirror
+  turn = c ⊗ t
 
-element-copy-out-t : tie.Need-element-copy-out-t
-element-copy-out-t c = search needs
+sign-of-requires : tie.Need-sign-of-requires
+sign-of-requires c κs = search needs
 
 cast-dx : tie.Need-cast-dx
 cast-dx c = search needs
@@ -62,49 +70,35 @@ cast-dy c = search needs
 shr-dy : tie.Need-shr-dy
 shr-dy c = search needs
 
-abbrev s₁ : tie.Then1 → tie.Start
-s₁ c = c .before .before .before .before .before
+mul-t10 : tie.Need-mul-t10
+mul-t10 c = fits (dx c) tt
 
-abbrev s₂ : tie.Then2 → tie.Start
-s₂ c = c .before .before .before .before .before .before
+add-t11 : tie.Need-add-t11
+add-t11 c = fits (x c ⊕ kept (dx c) tt) tt
 
-add-t16 : tie.Need-add-t16
-add-t16 c = fits (x (s₁ c) ⊕ dx (s₁ c)) tt
+mul-t12 : tie.Need-mul-t12
+mul-t12 c = fits (dy c) tt
 
-sub-t17 : tie.Need-sub-t17
-sub-t17 c = fits (y (s₁ c) ⊖ dy (s₁ c)) tt
+sub-t13 : tie.Need-sub-t13
+sub-t13 c = fits (y c ⊖ kept (dy c) tt) tt
 
-add-t18 : tie.Need-add-t18
-add-t18 c = fits (angle (s₁ c) ⊕ t (s₁ c)) tt
+mul-t14 : tie.Need-mul-t14
+mul-t14 c = search needs
 
-sub-t21 : tie.Need-sub-t21
-sub-t21 c = fits (x (s₂ c) ⊖ dx (s₂ c)) tt
+element-copy-out-t17 : tie.Need-element-copy-out-t17
+element-copy-out-t17 c = search needs
 
-add-t22 : tie.Need-add-t22
-add-t22 c = fits (y (s₂ c) ⊕ dy (s₂ c)) tt
+mul-t18 : tie.Need-mul-t18
+mul-t18 c = fits (turn (c .before)) tt
 
-sub-t23 : tie.Need-sub-t23
-sub-t23 c = fits (angle (s₂ c) ⊖ t (s₂ c)) tt
+add-t19 : tie.Need-add-t19
+add-t19 c = fits (angle (c .before) ⊕ kept (turn (c .before)) tt) tt
 
 returns : tie.Need-returns
-unfolding step
 returns c =
-    let s = s₁ c in
-    (λ i. record { x = kept (x s ⊕ dx s) tt .same i; y = kept (y s ⊖ dy s) tt .same i; angle = kept (angle s ⊕ t s) tt .same i })
-    ∙ sym (sign-above _ _ _ (s .args .s .y) (less (lit (pos 0)) (y s) (c .if1 .taken)))
-
-returns-2 : tie.Need-returns-2
-unfolding step
-returns-2 c =
-    let s = s₂ c in
-    (λ i. record { x = kept (x s ⊖ dx s) tt .same i; y = kept (y s ⊕ dy s) tt .same i; angle = kept (angle s ⊖ t s) tt .same i })
-    ∙ sym (sign-below _ _ _ (s .args .s .y) (less (y s) (lit (pos 0)) (c .if2 .taken)))
-
-returns-3 : tie.Need-returns-3
-unfolding step
-returns-3 c =
-    let s = c .before .before .before .before .before .before in
-    sym (sign-zero _ _ _ (s .args .s .y) (not-less (lit (pos 0)) (y s) (c .before .if1 .left)) (not-less (y s) (lit (pos 0)) (c .if2 .left)))
+    let b = c .before in
+    (λ i. record { x = kept (x b ⊕ kept (dx b) tt) tt .same i; y = kept (y b ⊖ kept (dy b) tt) tt .same i; angle = kept (angle b ⊕ kept (turn b) tt) tt .same i })
+    ∙ sym (step-signed (k b) (s b .args .s))
 
 pub stepped-spec : {M : Type 1} → statement M
-stepped-spec = tie.close (tie.spec mul-t element-copy-out-t cast-dx shr-dx cast-dy shr-dy add-t16 sub-t17 add-t18 sub-t21 add-t22 sub-t23 returns returns-2 returns-3)
+stepped-spec = tie.close (tie.spec sign-of-requires cast-dx shr-dx cast-dy shr-dy mul-t10 add-t11 mul-t12 sub-t13 mul-t14 element-copy-out-t17 mul-t18 add-t19 returns)

@@ -7,7 +7,7 @@ use lib.IntN.{natAbs}
 use Rattle.numbers.specs.Arctangent.{step, steps}
 use Rattle.numbers.specs.ArctangentTable.{arctangents}
 use Rattle.numbers.specs.declared.arctangent.Turning.{Turning}
-use Rattle.numbers.proofs.ArctangentLaws.{Sized, steps-sized}
+use Rattle.numbers.proofs.ArctangentLaws.{Sized, narrow-sized}
 use Rattle.numbers.proofs.arctangent.turned.Statement.{statement}
 use Rattle.numbers.proofs.arctangent.turned.Tie as tie
 
@@ -20,7 +20,7 @@ abbrev μ-loop : tie.MeasureT-loop
 -- no number of the pair passes 2⁶⁰
 sizes : (k : ℕ) (s r : Turning) → k < 30 → r ≡ steps k s → (natAbs (s .x) ≤ 2 ^ 50) × (natAbs (s .y) ≤ 2 ^ 50) × (natAbs (s .angle) ≤ 2 ^ 50) → Sized (2 ^ 60) (2 ^ 60) r
 sizes k s r h e p =
-    subst⁻¹ (Sized (2 ^ 60) (2 ^ 60)) e (steps-sized k s (omega arith) (record { x-size = p .0; y-size = p .1; angle-size = p .2 }))
+    subst⁻¹ (Sized (2 ^ 60) (2 ^ 60)) e (narrow-sized k s (omega arith) (record { x-size = p .0; y-size = p .1; angle-size = p .2 }))
 
 next : (k : ℕ) (s : Turning) → step k (steps k s) ≡ steps (k + 1) s
 unfolding steps
