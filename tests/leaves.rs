@@ -1,0 +1,88 @@
+// Every sine, cosine, arctangent and root of tests/vectors/leaves.txt, and every day from 1899 to 2101, through the archive.
+use std::env;
+use std::fs;
+
+#[repr(C)]
+#[derive(Debug, PartialEq)]
+struct CalendarDay {
+    refusal: u8,
+    days: i64,
+}
+
+extern "C" {
+    fn raddlehue_day_count(year: i64, month: i64, day: i64) -> CalendarDay;
+    fn raddlehue_sine(x: i64) -> i64;
+    fn raddlehue_cosine(x: i64) -> i64;
+    fn raddlehue_arctangent(y: i64, x: i64) -> u64;
+    fn raddlehue_root(x: u64) -> u64;
+}
+
+fn numbers(text: &str) -> Vec<i64> {
+    text.split_whitespace().map(|word| word.parse().unwrap()).collect()
+}
+
+// What the archive answers to a line of a kind that it has.
+fn answer(kind: &str, input: &[i64]) -> Option<Vec<i64>> {
+    unsafe {
+        match kind {
+            "sine" => Some(vec![raddlehue_sine(input[0]), raddlehue_cosine(input[0])]),
+            "atan" => Some(vec![raddlehue_arctangent(input[0], input[1]) as i64]),
+            "root" => Some(vec![raddlehue_root(input[0] as u64) as i64]),
+            _ => None,
+        }
+    }
+}
+
+fn is_leap(year: i64) -> bool {
+    year % 4 == 0 && (year % 100 != 0 || year % 400 == 0)
+}
+
+// The calendar walked day by day, with numbers of every size around each month.
+fn calendar() -> usize {
+    let mut count = 0;
+    let mut days = -36524;
+    let lengths = [31, 28, 31, 30, 31, 30, 31, 31, 30, 31, 30, 31];
+    for year in 1899..=2101 {
+        let known = (1900..=2100).contains(&year);
+        for month in 0..=13 {
+            let length = if (1..=12).contains(&month) {
+                lengths[month as usize - 1] + (month == 2 && is_leap(year)) as i64
+            } else {
+                0
+            };
+            for day in [i64::MIN, -1, 0].into_iter().chain(1..=32).chain([i64::MAX]) {
+                let refusal = if !known {
+                    1
+                } else if length == 0 {
+                    2
+                } else if day < 1 || length < day {
+                    3
+                } else {
+                    0
+                };
+                let expected = CalendarDay { refusal, days: if refusal == 0 { days } else { 0 } };
+                assert_eq!(unsafe { raddlehue_day_count(year, month, day) }, expected, "{year}-{month}-{day}");
+                days += (refusal == 0) as i64;
+                count += 1;
+            }
+        }
+    }
+    assert_eq!(days, 36890);
+    count
+}
+
+fn main() {
+    let path = env::args().nth(1).expect("the file of vectors");
+    let mut count = 0;
+    for line in fs::read_to_string(path).unwrap().lines() {
+        let (left, right) = line.split_once(" | ").unwrap();
+        let (kind, input) = left.split_once(' ').unwrap();
+        if !["sine", "atan", "root"].contains(&kind) {
+            continue;
+        }
+        assert_eq!(answer(kind, &numbers(input)), Some(numbers(right)), "{line}");
+        count += 1;
+    }
+    assert_eq!(count, 960);
+    println!("leaves: {count} vectors and {} dates come out", calendar());
+}
