@@ -10,3 +10,4 @@ pub mod RootLaws
 pub mod CalendarLaws
 pub mod ArctangentLaws
 pub mod LimbLaws
+pub mod CasesHold

@@ -7,3 +7,4 @@ pub mod Arctangent
 pub mod Limbs
 pub mod Root
 pub mod Calendar
+pub mod Cases

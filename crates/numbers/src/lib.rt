@@ -5,5 +5,6 @@ pub mod calendar;
 mod limbs;
 pub mod root;
 pub mod sine;
+pub mod sine_table;
 pub mod whole;
 mod wide_arctangent;

@@ -1,8 +1,8 @@
--- `numbers::sine::table` meets its contract: the constant is the table of `specs/`.
+-- `numbers::sine_table::table` meets its contract: the constant is the table of `specs/`.
 use mathlib.Core.Path.{refl}
 use Rattle.numbers.specs.SineTable.{sines}
-use Rattle.numbers.proofs.sine.table.Statement.{statement}
-use Rattle.numbers.proofs.sine.table.Tie as tie
+use Rattle.numbers.proofs.sine_table.table.Statement.{statement}
+use Rattle.numbers.proofs.sine_table.table.Tie as tie
 
 returns : tie.Need-returns
 unfolding sines
