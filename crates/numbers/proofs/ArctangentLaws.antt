@@ -5,6 +5,7 @@ use mathlib.Core.Path.{_∙_, _≡_, refl, subst, subst⁻¹, subst₂, sym}
 use Prim.Native.Nat.{_*_, _+_, _/_, _<_, _^_, _≤_, suc, zero, ℕ}
 use native.Mathlib.Decide.{le-ind}
 use native.Mathlib.Nat.{le-refl, le-trans, mul-le-mul-right}
+use native.Mathlib.Numerals.{add-one}
 use native.Mathlib.Omega.{arith}
 use lib.Dec.{T, eqb, leb, leb→le, lit<, lit≤, ltb→lt}
 use lib.IntN.{_*ℤ_, _+ℤ_, _-ℤ_, natAbs, negsuc, negℤ, pos, ℤ}
@@ -161,6 +162,10 @@ pub start-right : (y : ℤ) {x : ℤ} → pos 0 ≤ℤ x → _≡_ {A = Turning}
 unfolding start
 start-right y {x = pos n} h = refl
 start-right y {x = negsuc n} h = absurd (h .le)
+
+pub steps-next : (k : ℕ) (s : Turning) → step k (steps k s) ≡ steps (k + 1) s
+unfolding steps
+steps-next k s = rw add-one
 
 -- ---- sizes: x and y at most b before step k are at most b + b / 2ᵏ + 1 after it
 pub record Sized (b a : ℕ) (s : Turning) : Type 0 where

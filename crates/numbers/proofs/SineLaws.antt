@@ -1,12 +1,14 @@
 -- The cases of the sine's fold, and reducing a quarter turn on.
 use mathlib.Core.List.{[], _∷_}
-use mathlib.Core.Path.{_∙_, _≡_, ap, refl}
+use mathlib.Core.Path.{_∙_, _≡_, ap, refl, subst⁻¹}
 use Prim.Native.Nat.{_%_, _+_, _-_, _<_, _≤_, ℕ}
 use native.Mathlib.Decide.{decLt}
 use native.Mathlib.Nat.{mod-eq-of-lt}
 use native.Mathlib.Omega.{arith}
 use lib.Dec.{lit<}
 use lib.IntN.{_*ℤ_, _+ℤ_, negℤ, pos, ℤ}
+use mir.Syntax.{w64}
+use mir.Val.{SFits, ofZ, toZ}
 use borrow.Author.Tests.{le-leb, le-ltb, lt-leb, lt-ltb}
 use Rattle.arithmetic.specs.Floor.{_modulo_, ⌊_÷_⌋}
 use Rattle.arithmetic.proofs.FloorLaws.{modulo-below, shift-modulo, split}
@@ -14,6 +16,7 @@ use Rattle.arithmetic.proofs.Integers.{linℤ}
 use Rattle.arithmetic.proofs.Solver.{_:*_, _:+_, k1, x0, x1, x2, x3, x4}
 use Rattle.numbers.specs.Angle.{full-turn, half-turn, quarter-turn, reduced}
 use Rattle.numbers.specs.Sine.{cosine, fold, half-fold, negated-from-half, sine, sine-at}
+use Rattle.numbers.proofs.Machine.{any}
 
 pub half-low : {a : ℕ} → a ≤ quarter-turn → half-fold a ≡ a
 unfolding half-fold
@@ -83,3 +86,11 @@ reduced-add x k =
 pub cosine-is : (x : ℤ) → cosine x ≡ sine-at ((reduced x + quarter-turn) % full-turn)
 unfolding cosine sine
 cosine-is x = ap sine-at (reduced-add x quarter-turn)
+
+-- what `Angle::new` gave at a parameter
+module _ {x : ℤ} (f : SFits w64 x) {u : ℕ} (e : u ≡ reduced (toZ w64 (ofZ w64 x))) where
+  pub new-is : u ≡ reduced x
+  new-is = e ∙ ap reduced (any f .same)
+
+  pub new-below : u < full-turn
+  new-below = subst⁻¹ (λ (n : ℕ). n < full-turn) new-is (reduced-below x)

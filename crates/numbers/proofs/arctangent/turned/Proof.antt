@@ -1,13 +1,12 @@
 -- `numbers::arctangent::turned` meets its contract. The invariant: after k turns of the loop the pair is `steps k` of the first one.
 use mathlib.Core.Path.{_∙_, _≡_, ap, refl, subst⁻¹}
-use Prim.Native.Nat.{_+_, _-_, _<_, _^_, _≤_, ℕ}
-use native.Mathlib.Numerals.{add-one}
+use Prim.Native.Nat.{_-_, _<_, _^_, _≤_, ℕ}
 use native.Mathlib.Omega.{arith}
 use lib.IntN.{natAbs}
 use Rattle.numbers.specs.Arctangent.{step, steps}
 use Rattle.numbers.specs.ArctangentTable.{arctangents}
 use Rattle.numbers.specs.declared.arctangent.Turning.{Turning}
-use Rattle.numbers.proofs.ArctangentLaws.{Sized, narrow-sized}
+use Rattle.numbers.proofs.ArctangentLaws.{Sized, narrow-sized, steps-next}
 use Rattle.numbers.proofs.arctangent.turned.Statement.{statement}
 use Rattle.numbers.proofs.arctangent.turned.Tie as tie
 
@@ -21,10 +20,6 @@ abbrev μ-loop : tie.MeasureT-loop
 sizes : (k : ℕ) (s r : Turning) → k < 30 → r ≡ steps k s → (natAbs (s .x) ≤ 2 ^ 50) × (natAbs (s .y) ≤ 2 ^ 50) × (natAbs (s .angle) ≤ 2 ^ 50) → Sized (2 ^ 60) (2 ^ 60) r
 sizes k s r h e p =
     subst⁻¹ (Sized (2 ^ 60) (2 ^ 60)) e (narrow-sized k s (omega arith) (record { x-size = p .0; y-size = p .1; angle-size = p .2 }))
-
-next : (k : ℕ) (s : Turning) → step k (steps k s) ≡ steps (k + 1) s
-unfolding steps
-next k s = rw add-one
 
 loop-holds : tie.Need-loop-holds Inv-loop μ-loop
 unfolding steps
@@ -46,7 +41,7 @@ loop-less c = omega arith
 loop-again : tie.Need-loop-again Inv-loop μ-loop
 loop-again c =
     let b = c .before .before .before in
-    (omega arith, c .stepped .ensures ∙ ap (step (b .loop .k)) (b .loop .inv .1) ∙ next (b .loop .k) (b .before .args .s))
+    (omega arith, c .stepped .ensures ∙ ap (step (b .loop .k)) (b .loop .inv .1) ∙ steps-next (b .loop .k) (b .before .args .s))
 
 returns : tie.Need-returns Inv-loop μ-loop
 returns c = c .before .loop .inv .1 ∙ ap (λ (k : ℕ). steps k (c .before .before .args .s)) (omega arith)

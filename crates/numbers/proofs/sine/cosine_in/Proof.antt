@@ -1,27 +1,20 @@
 -- `numbers::sine::cosine_in` meets its contract.
-use mathlib.Core.Path.{_∙_, _≡_, ap, subst⁻¹, sym}
-use Prim.Native.Nat.{_%_, _+_, _<_, ℕ}
+use mathlib.Core.Path.{_∙_, ap, sym}
+use Prim.Native.Nat.{_%_, _+_, ℕ}
 use native.Mathlib.Omega.{arith}
 use borrow.Author.Needs.{needs}
-use Rattle.numbers.specs.Angle.{full-turn, quarter-turn, reduced}
+use Rattle.numbers.specs.Angle.{full-turn, quarter-turn}
 use Rattle.numbers.specs.Sine.{sine-at}
-use Rattle.numbers.proofs.Machine.{any, passed}
-use Rattle.numbers.proofs.SineLaws.{cosine-is, reduced-below}
+use Rattle.numbers.proofs.Machine.{passed}
+use Rattle.numbers.proofs.SineLaws.{cosine-is, new-below, new-is}
 use Rattle.numbers.proofs.sine.cosine_in.Statement.{statement}
 use Rattle.numbers.proofs.sine.cosine_in.Tie as tie
-
--- the angle that was reduced
-reduced-is : (c : tie.After-new) → c .new .result .units ≡ reduced (c .before .args .x)
-reduced-is c = c .new .ensures ∙ ap reduced (any (c .before .fits .x) .same)
-
-below : (c : tie.After-new) → c .new .result .units < full-turn
-below c = subst⁻¹ (λ (n : ℕ). n < full-turn) (reduced-is c) (reduced-below (c .before .args .x))
 
 new-requires : tie.Need-new-requires
 new-requires c κs = search needs
 
 quarter-on-requires : tie.Need-quarter-on-requires
-quarter-on-requires c κs = below c
+quarter-on-requires c κs = new-below (c .before .fits .x) (c .new .ensures)
 
 sine-at-requires : tie.Need-sine-at-requires
 sine-at-requires c κs = (c .before .before .pre, omega (arith, c .quarter-on .ensures))
@@ -30,7 +23,7 @@ returns : tie.Need-returns
 returns c =
     passed (c .sine-at .ok)
     (c .sine-at .ensures
-    ∙ ap sine-at (c .before .quarter-on .ensures ∙ ap (λ (a : ℕ). (a + quarter-turn) % full-turn) (reduced-is (c .before .before)))
+    ∙ ap sine-at (c .before .quarter-on .ensures ∙ ap (λ (a : ℕ). (a + quarter-turn) % full-turn) (new-is (c .before .before .before .fits .x) (c .before .before .new .ensures)))
     ∙ sym (cosine-is (c .before .before .before .args .x)))
 
 pub cosine-in-spec : {M : Type 1} → statement M

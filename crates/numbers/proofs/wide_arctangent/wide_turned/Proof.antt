@@ -12,7 +12,7 @@ use Rattle.numbers.specs.ArctangentTable.{arctangents}
 use Rattle.numbers.specs.Limbs.{Proper, turning, value}
 use Rattle.numbers.specs.declared.arctangent.Turning.{Turning}
 use Rattle.numbers.specs.declared.wide_arctangent.WideTurning.{WideTurning}
-use Rattle.numbers.proofs.ArctangentLaws.{Sized, wide-sized}
+use Rattle.numbers.proofs.ArctangentLaws.{Sized, steps-next, wide-sized}
 use Rattle.numbers.proofs.wide_arctangent.wide_turned.Statement.{statement}
 use Rattle.numbers.proofs.wide_arctangent.wide_turned.Tie as tie
 
@@ -27,10 +27,6 @@ sizes : (k : ℕ) (s : WideTurning) (r : Turning) → k ≤ 30 → r ≡ steps k
     → (Proper (s .x) × Proper (s .y)) × ((natAbs (value (s .x)) ≤ 2 ^ 73) × ((natAbs (value (s .y)) ≤ 2 ^ 73) × (natAbs (s .angle) ≤ 2 ^ 50))) → Sized (2 ^ 82) (2 ^ 60) r
 sizes k s r h e p =
     subst⁻¹ (Sized (2 ^ 82) (2 ^ 60)) e (wide-sized k (turning s) h (record { x-size = p .1 .0; y-size = p .1 .1 .0; angle-size = p .1 .1 .1 }))
-
-next : (k : ℕ) (s : Turning) → step k (steps k s) ≡ steps (k + 1) s
-unfolding steps
-next k s = rw add-one
 
 doubled : (k : ℕ) → 2 ^ k * 2 ≡ 2 ^ (k + 1)
 doubled k = sym (pow-suc 2 k) ∙ ap (λ (n : ℕ). 2 ^ n) (sym (add-one k))
@@ -70,7 +66,7 @@ loop-again c =
       omega arith,
       (
         ap (λ (n : ℕ). n * 2) (i .1 .0) ∙ doubled (b .loop .k),
-        (c .wide-stepped .ensures .0 ∙ ap (step (b .loop .k)) (i .1 .1 .0) ∙ next (b .loop .k) (turning (b .before .args .s)), c .wide-stepped .ensures .1),
+        (c .wide-stepped .ensures .0 ∙ ap (step (b .loop .k)) (i .1 .1 .0) ∙ steps-next (b .loop .k) (turning (b .before .args .s)), c .wide-stepped .ensures .1),
       ),
     )
 
