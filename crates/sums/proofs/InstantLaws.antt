@@ -1,0 +1,38 @@
+-- Sizes of the powers of an accepted instant: little more than a million on either side of zero.
+use mathlib.Core.Path.{_∙_, _≡_, ap}
+use Prim.Native.Nat.{_+_, _/_, _<_, _^_, _≤_, ℕ}
+use native.Mathlib.Nat.{le-refl, le-trans}
+use lib.Dec.{T, leb, leb→le}
+use lib.IntN.{_*ℤ_, natAbs, pos, ℤ}
+use lib.Signed.{mag}
+use Rattle.arithmetic.specs.Floor.{⌊_÷_⌋}
+use Rattle.arithmetic.proofs.FloorLaws.{floor-most, floor-small}
+use Rattle.arithmetic.proofs.Sizes.{mul-bound}
+use Rattle.numbers.proofs.Machine.{Mirror, gave}
+use Rattle.sums.specs.Instant.{century, furthest, p2, p3, p4, u}
+
+-- a floor of a number of at most m
+floor-within : (z : ℤ) (d : ℕ) {m k : ℕ} → natAbs z ≤ m → T (leb (m / d + 1) k) → natAbs ⌊ z ÷ d ⌋ ≤ k
+floor-within z d {m} {k} h t = le-trans (floor-most z d m h) (leb→le (m / d + 1) k t)
+
+module _ (n : ℤ) (h : natAbs n ≤ furthest) where
+  pub u-most : natAbs (u n) ≤ 1_011_001
+  unfolding u
+  u-most = floor-within (pos 1_000_000 *ℤ n) century (mul-bound (pos 1_000_000) n (le-refl 1_000_000) h) tt
+
+  pub p2-most : natAbs (p2 n) ≤ 1_022_124
+  unfolding p2
+  p2-most = floor-within (u n *ℤ u n) 1_000_000 (mul-bound (u n) (u n) u-most u-most) tt
+
+  pub p3-most : natAbs (p3 n) ≤ 1_033_369
+  unfolding p3
+  p3-most = floor-within (p2 n *ℤ u n) 1_000_000 (mul-bound (p2 n) (u n) p2-most u-most) tt
+
+  pub p4-most : natAbs (p4 n) ≤ 1_044_738
+  unfolding p4
+  p4-most = floor-within (p2 n *ℤ p2 n) 1_000_000 (mul-bound (p2 n) (p2 n) p2-most p2-most) tt
+
+-- what a floor by a divisor that is not a numeral gave: no larger than what was divided
+abbrev pub small-floor-gave : {r : ℤ} (x : Mirror) (d : ℕ) → mag r < 2 ^ 63 → r ≡ ⌊ x .machine ÷ d ⌋ → Mirror
+small-floor-gave {r} x d f e =
+    gave {r = r} {v = ⌊ x .number ÷ d ⌋} {m = x .most} f (e ∙ ap (λ (z : ℤ). ⌊ z ÷ d ⌋) (x .same)) (le-trans (floor-small (x .number) d) (x .bound))

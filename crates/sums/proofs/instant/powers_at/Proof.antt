@@ -1,0 +1,73 @@
+-- `sums::instant::powers_at` meets its contract.
+use lib.IntN.{pos}
+use borrow.Author.Needs.{needs}
+use Rattle.numbers.proofs.Machine.{Mirror, _⊗_, arg, fits, floor-gave, kept, lit}
+use Rattle.sums.specs.Instant.{century, p2, p3, p4, u}
+use Rattle.sums.proofs.instant.powers_at.Statement.{statement}
+use Rattle.sums.proofs.instant.powers_at.Tie as tie
+
+abbrev n-mirror : tie.Start → Mirror
+n-mirror s = arg (s .fits .n) (s .pre)
+
+abbrev scaled : tie.Start → Mirror
+scaled s = lit (pos 1_000_000) ⊗ n-mirror s
+
+abbrev u-mirror : tie.After-floor-div → Mirror
+u-mirror c = floor-gave (kept (scaled (c .before)) tt) century (c .floor-div .ok) (c .floor-div .ensures)
+
+abbrev p2-mirror : tie.After-floor-div2 → Mirror
+p2-mirror c = floor-gave (kept (u-mirror (c .before) ⊗ u-mirror (c .before)) tt) 1_000_000 (c .floor-div2 .ok) (c .floor-div2 .ensures)
+
+abbrev p3-mirror : tie.After-floor-div3 → Mirror
+p3-mirror c = floor-gave (kept (p2-mirror (c .before) ⊗ u-mirror (c .before .before)) tt) 1_000_000 (c .floor-div3 .ok) (c .floor-div3 .ensures)
+
+abbrev p4-mirror : tie.After-floor-div4 → Mirror
+p4-mirror c = floor-gave (kept (p2-mirror (c .before .before) ⊗ p2-mirror (c .before .before)) tt) 1_000_000 (c .floor-div4 .ok) (c .floor-div4 .ensures)
+
+mul-floor-div : tie.Need-mul-floor-div
+mul-floor-div c = fits (scaled c) tt
+
+floor-div-requires : tie.Need-floor-div-requires
+floor-div-requires c κs = search needs
+
+mul-floor-div-2 : tie.Need-mul-floor-div-2
+mul-floor-div-2 c = fits (u-mirror c ⊗ u-mirror c) tt
+
+floor-div-requires-2 : tie.Need-floor-div-requires-2
+floor-div-requires-2 c κs = search needs
+
+mul-floor-div-3 : tie.Need-mul-floor-div-3
+mul-floor-div-3 c = fits (p2-mirror c ⊗ u-mirror (c .before)) tt
+
+floor-div-requires-3 : tie.Need-floor-div-requires-3
+floor-div-requires-3 c κs = search needs
+
+mul-floor-div-4 : tie.Need-mul-floor-div-4
+mul-floor-div-4 c = fits (p2-mirror (c .before) ⊗ p2-mirror (c .before)) tt
+
+floor-div-requires-4 : tie.Need-floor-div-requires-4
+floor-div-requires-4 c κs = search needs
+
+returns : tie.Need-returns
+unfolding u p2 p3 p4
+returns c = λ i. record {
+  n = n-mirror (c .before .before .before .before) .same i;
+  u = u-mirror (c .before .before .before) .same i;
+  p2 = p2-mirror (c .before .before) .same i;
+  p3 = p3-mirror (c .before) .same i;
+  p4 = p4-mirror c .same i;
+}
+
+pub powers-at-spec : {M : Type 1} → statement M
+powers-at-spec =
+    tie.close
+    (tie.spec
+    mul-floor-div
+    floor-div-requires
+    mul-floor-div-2
+    floor-div-requires-2
+    mul-floor-div-3
+    floor-div-requires-3
+    mul-floor-div-4
+    floor-div-requires-4
+    returns)

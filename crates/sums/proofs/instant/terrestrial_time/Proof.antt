@@ -1,0 +1,16 @@
+-- `sums::instant::terrestrial_time` meets its contract.
+use Rattle.numbers.proofs.Machine.{Mirror, _⊕_, arg, fits, kept}
+use Rattle.sums.proofs.instant.terrestrial_time.Statement.{statement}
+use Rattle.sums.proofs.instant.terrestrial_time.Tie as tie
+
+abbrev sum : tie.Start → Mirror
+sum c = arg (c .fits .ut) (c .pre .0) ⊕ arg (c .fits .delta) (c .pre .1)
+
+add-result : tie.Need-add-result
+add-result c = fits (sum c) tt
+
+returns : tie.Need-returns
+returns c = kept (sum c) tt .same
+
+pub terrestrial-time-spec : {M : Type 1} → statement M
+terrestrial-time-spec = tie.close (tie.spec add-result returns)

@@ -1,0 +1,44 @@
+-- `sums::instant::universal_time` meets its contract.
+use Prim.Native.Nat.{_/_}
+use lib.IntN.{pos}
+use borrow.Author.Needs.{needs}
+use Rattle.numbers.proofs.Machine.{Mirror, _⊕_, _⊖_, _⊗_, arg, fits, kept, lit}
+use Rattle.sums.specs.Instant.{day}
+use Rattle.sums.proofs.instant.universal_time.Statement.{statement}
+use Rattle.sums.proofs.instant.universal_time.Tie as tie
+
+abbrev days-part : tie.Start → Mirror
+days-part c = lit (pos day) ⊗ arg (c .fits .days) (c .pre .0)
+
+abbrev from-noon : tie.Start → Mirror
+from-noon c = kept (days-part c) tt ⊖ lit (pos (day / 2))
+
+abbrev with-day : tie.Start → Mirror
+with-day c = kept (from-noon c) tt ⊕ arg (c .fits .elapsed) (c .pre .1 .0)
+
+abbrev sum : tie.Start → Mirror
+sum c = kept (with-day c) tt ⊕ arg (c .fits .ut1) (c .pre .1 .1)
+
+cast-result : tie.Need-cast-result
+cast-result c = search needs
+
+mul-result : tie.Need-mul-result
+mul-result c = fits (days-part c) tt
+
+cast-result-2 : tie.Need-cast-result-2
+cast-result-2 c = search needs
+
+sub-result : tie.Need-sub-result
+sub-result c = fits (from-noon c) tt
+
+add-result : tie.Need-add-result
+add-result c = fits (with-day c) tt
+
+add-result-2 : tie.Need-add-result-2
+add-result-2 c = fits (sum c) tt
+
+returns : tie.Need-returns
+returns c = kept (sum c) tt .same
+
+pub universal-time-spec : {M : Type 1} → statement M
+universal-time-spec = tie.close (tie.spec cast-result mul-result cast-result-2 sub-result add-result add-result-2 returns)

@@ -1,0 +1,12 @@
+-- Tables: a list of rows, each a list of numbers; their columns, and sums over the rows.
+use mathlib.Core.List.{List, [], _∷_}
+use Prim.Native.Nat.{ℕ}
+use lib.IntN.{ℤ, pos, _+ℤ_}
+use lib.ListN.{getD}
+
+abbrev pub column : List ℤ → ℕ → ℤ
+column row i = getD row i (pos 0)
+
+unfoldable pub total : {A : Type 0} → (A → ℤ) → List A → ℤ
+total f [] = pos 0
+total f (row ∷ rows) = f row +ℤ total f rows

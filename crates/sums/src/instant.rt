@@ -1,0 +1,75 @@
+// Instants in units of time from noon of 2000-01-01, their powers, and polynomials in them.
+use numbers::angle::Angle;
+use numbers::whole::floor_div;
+use numbers::whole::mul_div;
+ghost use mathlib.Core.Path.{_≡_};
+ghost use Prim.Native.Nat.{_≤_, _^_};
+ghost use lib.IntN.{pos, natAbs};
+ghost use Rattle.sums.specs.Instant.{universal-time, terrestrial-time, furthest, powers, value, Suits, Reached};
+
+// The unit of time: so many to a second.
+pub const SECOND: u64 = 10;
+
+pub const DAY: u64 = 86_400 * SECOND;
+
+// A Julian century.
+pub const CENTURY: u64 = 36_525 * DAY;
+
+// c0 + c1 T + c2 T² + s3 T³/k3 + s4 T⁴/k4.
+pub struct Polynomial {
+    pub c0: i64,
+    pub c1: i64,
+    pub c2: i64,
+    pub s3: i64,
+    pub k3: u64,
+    pub s4: i64,
+    pub k4: u64,
+}
+
+// An instant n, and u, p2, p3, p4 from it.
+pub struct Powers {
+    pub n: i64,
+    pub u: i64,
+    pub p2: i64,
+    pub p3: i64,
+    pub p4: i64,
+}
+
+// UT of the days from 2000-01-01, the units of the day, and UT1 minus UTC.
+pub fn universal_time(days: i64, elapsed: i64, ut1: i64) -> i64
+    requires { ⌜ (natAbs days ≤ 2 ^ 17) × ((natAbs elapsed ≤ 2 ^ 42) × (natAbs ut1 ≤ 2 ^ 42)) ⌝ }
+    ensures { λ r. ⌜ r ≡ universal-time days elapsed ut1 ⌝ }
+{
+    DAY as i64 * days - (DAY / 2) as i64 + elapsed + ut1
+}
+
+// TT of UT and delta-T.
+pub fn terrestrial_time(ut: i64, delta: i64) -> i64
+    requires { ⌜ (natAbs ut ≤ 2 ^ 60) × (natAbs delta ≤ 2 ^ 60) ⌝ }
+    ensures { λ r. ⌜ r ≡ terrestrial-time ut delta ⌝ }
+{
+    ut + delta
+}
+
+pub fn powers_at(n: i64) -> Powers
+    requires { ⌜ natAbs n ≤ furthest ⌝ }
+    ensures { λ r. ⌜ r ≡ powers n ⌝ }
+{
+    let u = floor_div(1_000_000 * n, CENTURY);
+    let p2 = floor_div(u * u, 1_000_000);
+    let p3 = floor_div(p2 * u, 1_000_000);
+    let p4 = floor_div(p2 * p2, 1_000_000);
+    Powers { n, u, p2, p3, p4 }
+}
+
+// The value at an instant, reduced to one turn.
+pub fn value_at(p: Polynomial, t: Powers) -> i64
+    requires { ⌜ Suits p × Reached t ⌝ }
+    ensures { λ r. ⌜ r ≡ pos (value p (t .n)) ⌝ }
+{
+    let first = mul_div(p.c1, t.n, CENTURY);
+    let second = floor_div(p.c2 * t.p2, 1_000_000);
+    let third = floor_div(100 * p.s3 * t.p3, p.k3);
+    let fourth = floor_div(100 * p.s4 * t.p4, p.k4);
+    Angle::new(p.c0 + first + second + third + fourth).units as i64
+}

@@ -1,0 +1,5 @@
+// Tables and sums: instants, the Moon's and the Sun's periodic sums, nutation, sidereal time.
+pub mod instant;
+pub mod moon_terms;
+pub mod nutation_terms;
+pub mod sun_terms;
