@@ -26,7 +26,7 @@ pub record Mirror : Type 0 where
   pub same : machine ≡ number
   pub bound : natAbs number ≤ most
 
-mag-le : (z : ℤ) → mag z ≤ natAbs z
+pub mag-le : (z : ℤ) → mag z ≤ natAbs z
 mag-le (pos n) = le-refl n
 mag-le (negsuc n) = omega arith
 

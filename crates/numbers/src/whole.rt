@@ -1,7 +1,7 @@
 // Whole numbers on 64-bit integers: division rounded down, and a product that passes 64 bits.
 ghost use mathlib.Core.Path.{_≡_};
 ghost use Prim.Native.Nat.{_<_, _^_};
-ghost use lib.IntN.{pos, _*ℤ_};
+ghost use lib.IntN.{pos, natAbs, _*ℤ_};
 ghost use lib.Signed.{mag};
 ghost use Rattle.arithmetic.specs.Floor.{⌊_÷_⌋, _modulo_};
 ghost use Rattle.numbers.specs.Whole.{sign, MulDiv};
@@ -24,6 +24,17 @@ fn magnitude(a: i64) -> u64
     ensures { λ r. ⌜ r ≡ mag a ⌝ }
 {
     if a < 0 { (-1 - a) as u64 } else { a as u64 }
+}
+
+// |a|, of any a.
+pub fn absolute(a: i64) -> u64
+    ensures { λ r. ⌜ r ≡ natAbs a ⌝ }
+{
+    if a < 0 {
+        magnitude(a) + 1
+    } else {
+        magnitude(a)
+    }
 }
 
 // ⌊a / d⌋, also below zero.

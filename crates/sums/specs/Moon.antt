@@ -1,14 +1,16 @@
 -- The Moon's sums (01, "Moon"), at TT n.
-use Prim.Native.Nat.{ℕ, zero, suc}
+use Prim.Native.Nat.{ℕ, zero, suc, _+_, _*_, _^_, _≤_, _<_}
 use mathlib.Core.List.{List, [], _∷_}
+use lib.ListN.{getD, length}
 use lib.IntN.{ℤ, pos, natAbs, _+ℤ_, _*ℤ_, _-ℤ_}
 use Rattle.arithmetic.specs.Floor.{⌊_÷_⌋}
-use Rattle.numbers.specs.Angle.{reduced}
+use Rattle.numbers.specs.Angle.{full-turn, reduced}
 use Rattle.numbers.specs.Sine.{sine, cosine}
 use Rattle.sums.specs.Instant.{u, p2, value, minus}
-use Rattle.sums.specs.Table.{column, total}
+use Rattle.sums.specs.Table.{column, count, total}
 use Rattle.sums.specs.MoonTerms as Of
 use Rattle.sums.specs.MoonTerms.{longitude-distance-terms, latitude-terms}
+use Rattle.sums.specs.declared.moon.Eccentricity.{Eccentricity}
 use Rattle.sums.specs.declared.instant.Polynomial.{Polynomial}
 
 -- an argument, as a signed number
@@ -25,35 +27,66 @@ E n = pos 1_000_000 +ℤ ⌊ minus 2516 *ℤ u n ÷ 1_000_000 ⌋ +ℤ ⌊ minus
 unfoldable pub E2 : ℤ → ℤ
 E2 n = ⌊ E n *ℤ E n ÷ 1_000_000 ⌋
 
+abbrev pub eccentricity : ℤ → Eccentricity
+eccentricity n = record { e = E n; e2 = E2 n }
+
 -- a row's weight by the size of its column m: 0, 100 l; 1, ⌊l E / 10⁴⌋; 2, ⌊l E2 / 10⁴⌋
-unfoldable pub weight : ℤ → ℕ → ℤ → ℤ
-weight n zero l = pos 100 *ℤ l
-weight n (suc zero) l = ⌊ l *ℤ E n ÷ 10_000 ⌋
-weight n (suc (suc m)) l = ⌊ l *ℤ E2 n ÷ 10_000 ⌋
+unfoldable pub weight : Eccentricity → ℕ → ℤ → ℤ
+weight e zero l = pos 100 *ℤ l
+weight e (suc zero) l = ⌊ l *ℤ e .e ÷ 10_000 ⌋
+weight e (suc (suc m)) l = ⌊ l *ℤ e .e2 ÷ 10_000 ⌋
 
--- a row's angle: its four column numbers times D, M, M' and F
-abbrev pub row-angle : ℤ → List ℤ → ℤ
-row-angle n row = column row 0 *ℤ argument Of.D n +ℤ column row 1 *ℤ argument Of.M n +ℤ column row 2 *ℤ argument Of.M′ n +ℤ column row 3 *ℤ argument Of.F n
+-- a row's angle: its four column numbers times D, M, M' and F, which are the arguments from 1 on
+abbrev pub row-angle : List ℤ → List ℤ → ℤ
+row-angle arguments row = column row 0 *ℤ column arguments 1 +ℤ column row 1 *ℤ column arguments 2
+    +ℤ column row 2 *ℤ column arguments 3 +ℤ column row 3 *ℤ column arguments 4
 
--- the rows by sine, of the weights in column 4, and by cosine, of those in column 5
-abbrev pub sine-term : ℤ → List ℤ → ℤ
-sine-term n row = weight n (natAbs (column row 1)) (column row 4) *ℤ sine (row-angle n row)
+-- a row by sine, of the weight in column 4, and by cosine, of that in column 5
+abbrev pub sine-term : List ℤ → Eccentricity → List ℤ → ℤ
+sine-term arguments e row = weight e (natAbs (column row 1)) (column row 4) *ℤ sine (row-angle arguments row)
 
-abbrev pub cosine-term : ℤ → List ℤ → ℤ
-cosine-term n row = weight n (natAbs (column row 1)) (column row 5) *ℤ cosine (row-angle n row)
+abbrev pub cosine-term : List ℤ → Eccentricity → List ℤ → ℤ
+cosine-term arguments e row = weight e (natAbs (column row 1)) (column row 5) *ℤ cosine (row-angle arguments row)
+
+abbrev pub by-sine : ℤ → List (List ℤ) → ℤ
+by-sine n terms = total (sine-term (arguments n) (eccentricity n)) terms
+
+abbrev pub by-cosine : ℤ → List (List ℤ) → ℤ
+by-cosine n terms = total (cosine-term (arguments n) (eccentricity n)) terms
+
+-- what keeps the sums within 64 bits: arguments within a turn, E and E2 little above a million, and tables whose weights add up to little
+pub record Turns (arguments : List ℤ) : Type 0 where
+  pub within : (i : ℕ) → natAbs (column arguments i) ≤ full-turn
+
+pub record Slight (e : Eccentricity) : Type 0 where
+  pub once : natAbs (e .e) ≤ 2 ^ 20
+  pub twice : natAbs (e .e2) ≤ 2 ^ 20
+
+pub record SmallRow (row : List ℤ) : Type 0 where
+  pub multiples : (i : ℕ) → i ≤ 3 → natAbs (column row i) ≤ 4
+  pub by-sine : natAbs (column row 4) ≤ 2 ^ 25
+  pub by-cosine : natAbs (column row 5) ≤ 2 ^ 25
+
+abbrev pub spread : ℕ → List ℤ → ℕ
+spread i row = (105 * natAbs (column row i) + 1) * 1_000_000_001
+
+pub record Summable (terms : List (List ℤ)) : Type 0 where
+  pub each : (i : ℕ) → i < length terms → SmallRow (getD terms i [])
+  pub by-sine : count (spread 4) terms ≤ 2 ^ 62
+  pub by-cosine : count (spread 5) terms ≤ 2 ^ 62
 
 -- added at weight 100
 abbrev pub added : ℤ → ℤ → ℤ
 added w a = pos 100 *ℤ w *ℤ sine a
 
 abbrev pub longitude-sum : ℤ → ℤ
-longitude-sum n = total (sine-term n) longitude-distance-terms
+longitude-sum n = by-sine n longitude-distance-terms
     +ℤ added (pos 3958) (argument Of.A1 n)
     +ℤ added (pos 1962) (argument Of.L′ n -ℤ argument Of.F n)
     +ℤ added (pos 318) (argument Of.A2 n)
 
 abbrev pub latitude-sum : ℤ → ℤ
-latitude-sum n = total (sine-term n) latitude-terms
+latitude-sum n = by-sine n latitude-terms
     +ℤ added (minus 2235) (argument Of.L′ n)
     +ℤ added (pos 382) (argument Of.A3 n)
     +ℤ added (pos 175) (argument Of.A1 n -ℤ argument Of.F n)
@@ -62,7 +95,7 @@ latitude-sum n = total (sine-term n) latitude-terms
     +ℤ added (minus 115) (argument Of.L′ n +ℤ argument Of.M′ n)
 
 abbrev pub distance-sum : ℤ → ℤ
-distance-sum n = total (cosine-term n) longitude-distance-terms
+distance-sum n = by-cosine n longitude-distance-terms
 
 -- longitude = L' + ⌊sum / 10⁹⌋, reduced; latitude = ⌊sum / 10⁹⌋; metres = 385,000,560 + ⌊sum / 10¹¹⌋
 unfoldable pub longitude : ℤ → ℕ

@@ -1,5 +1,6 @@
 // Tables and sums: instants, the Moon's and the Sun's periodic sums, nutation, sidereal time.
 pub mod instant;
+pub mod moon;
 pub mod moon_terms;
 pub mod nutation_terms;
 pub mod sun_terms;

@@ -1,0 +1,218 @@
+// The Moon's sums: longitude, latitude and distance from the Earth's centre, before nutation.
+use super::instant::Polynomial;
+use super::instant::Powers;
+use super::instant::powers_at;
+use super::instant::value_at;
+use super::moon_terms::latitude_terms;
+use super::moon_terms::longitude_distance_terms;
+use numbers::angle::Angle;
+use numbers::sine::cosine_in;
+use numbers::sine::sine_in;
+use numbers::sine_table::table;
+use numbers::whole::absolute;
+use numbers::whole::floor_div;
+ghost use mathlib.Core.Path.{_≡_};
+ghost use Prim.Native.Nat.{_≤_, _^_};
+ghost use lib.IntN.{pos, natAbs, _*ℤ_, _+ℤ_};
+ghost use lib.ListN.{getD};
+ghost use Rattle.numbers.specs.Sine.{cosine};
+ghost use Rattle.numbers.specs.SineTable.{sines};
+ghost use Rattle.sums.specs.Instant.{furthest, Reached, value};
+ghost use Rattle.sums.specs.Table.{total};
+ghost use Rattle.sums.specs.MoonTerms.{A1, A2, A3};
+ghost use Rattle.sums.specs.Moon.{arguments, eccentricity, weight, row-angle, sine-term, cosine-term, added, Turns, Slight, SmallRow, Summable};
+
+// L'.
+const MEAN_LONGITUDE: Polynomial = Polynomial {
+    c0: 21_831_644_770,
+    c1: 48_126_788_123_421,
+    c2: -157_860,
+    s3: 1,
+    k3: 538_841,
+    s4: -1,
+    k4: 65_194_000,
+};
+
+// D.
+const ELONGATION: Polynomial = Polynomial {
+    c0: 29_785_019_210,
+    c1: 44_526_711_140_340,
+    c2: -188_190,
+    s3: 1,
+    k3: 545_868,
+    s4: -1,
+    k4: 113_065_000,
+};
+
+// M.
+const SUN_ANOMALY: Polynomial = Polynomial {
+    c0: 35_752_910_920,
+    c1: 3_599_905_029_090,
+    c2: -15_360,
+    s3: 1,
+    k3: 24_490_000,
+    s4: 0,
+    k4: 1,
+};
+
+// M'.
+const MOON_ANOMALY: Polynomial = Polynomial {
+    c0: 13_496_339_640,
+    c1: 47_719_886_750_550,
+    c2: 874_140,
+    s3: 1,
+    k3: 69_699,
+    s4: -1,
+    k4: 14_712_000,
+};
+
+// F.
+const LATITUDE_ARGUMENT: Polynomial = Polynomial {
+    c0: 9_327_209_500,
+    c1: 48_320_201_752_330,
+    c2: -365_390,
+    s3: -1,
+    k3: 3_526_000,
+    s4: 1,
+    k4: 863_310_000,
+};
+
+// A1, from Venus.
+const VENUS: Polynomial = Polynomial {
+    c0: 11_975_000_000,
+    c1: 13_184_900_000,
+    c2: 0,
+    s3: 0,
+    k3: 1,
+    s4: 0,
+    k4: 1,
+};
+
+// A2, from Jupiter.
+const JUPITER: Polynomial = Polynomial {
+    c0: 5_309_000_000,
+    c1: 47_926_429_000_000,
+    c2: 0,
+    s3: 0,
+    k3: 1,
+    s4: 0,
+    k4: 1,
+};
+
+// A3.
+const THIRD: Polynomial = Polynomial {
+    c0: 31_345_000_000,
+    c1: 48_126_648_400_000,
+    c2: 0,
+    s3: 0,
+    k3: 1,
+    s4: 0,
+    k4: 1,
+};
+
+// E and E2: the Earth's orbit is less and less eccentric.
+pub struct Eccentricity {
+    pub e: i64,
+    pub e2: i64,
+}
+
+// What is summed by sine and by cosine.
+pub struct TermSums {
+    pub sine: i64,
+    pub cosine: i64,
+}
+
+// L', D, M, M', F.
+pub fn arguments(t: Powers) -> [i64; 5]
+    requires { ⌜ Reached t ⌝ }
+    ensures { λ r. ⌜ r ≡ arguments (t .n) ⌝ }
+{
+    [
+        value_at(MEAN_LONGITUDE, t),
+        value_at(ELONGATION, t),
+        value_at(SUN_ANOMALY, t),
+        value_at(MOON_ANOMALY, t),
+        value_at(LATITUDE_ARGUMENT, t),
+    ]
+}
+
+fn eccentricity_at(t: Powers) -> Eccentricity
+    requires { ⌜ Reached t ⌝ }
+    ensures { λ r. ⌜ r ≡ eccentricity (t .n) ⌝ }
+{
+    let e = 1_000_000 + floor_div(-2516 * t.u, 1_000_000) + floor_div(-74 * t.p2, 10_000_000);
+    let e2 = floor_div(e * e, 1_000_000);
+    Eccentricity { e, e2 }
+}
+
+// A row's weight: E to the power of |m|.
+fn weight(e: Eccentricity, m: u64, l: i64) -> i64
+    requires { ⌜ Slight e × (natAbs l ≤ 2 ^ 31) ⌝ }
+    ensures { λ r. ⌜ r ≡ weight e m l ⌝ }
+{
+    if m == 0 {
+        100 * l
+    } else if m == 1 {
+        floor_div(l * e.e, 10_000)
+    } else {
+        floor_div(l * e.e2, 10_000)
+    }
+}
+
+fn row_angle(arguments: [i64; 5], row: [i32; 6]) -> i64
+    requires { ⌜ Turns arguments × SmallRow row ⌝ }
+    ensures { λ r. ⌜ r ≡ row-angle arguments row ⌝ }
+{
+    row[0] as i64 * arguments[1]
+        + row[1] as i64 * arguments[2]
+        + row[2] as i64 * arguments[3]
+        + row[3] as i64 * arguments[4]
+}
+
+// Many rows go by sine alone.
+fn cosine_term(table: &[u32; 361], weight: i64, angle: i64) -> i64
+    requires { ⌜ (now table ≡ sines) × (natAbs weight ≤ 2 ^ 32) ⌝ }
+    ensures { λ r. ⌜ r ≡ weight *ℤ cosine angle ⌝ }
+{
+    if weight == 0 {
+        0
+    } else {
+        weight * cosine_in(table, angle)
+    }
+}
+
+// One row by sine and by cosine.
+fn row_terms(table: &[u32; 361], arguments: [i64; 5], e: Eccentricity, row: [i32; 6]) -> TermSums
+    requires { ⌜ (now table ≡ sines) × (Turns arguments × (Slight e × SmallRow row)) ⌝ }
+    ensures { λ r. ⌜ (r .sine ≡ sine-term arguments e row) × (r .cosine ≡ cosine-term arguments e row) ⌝ }
+{
+    let angle = row_angle(arguments, row);
+    let m = absolute(row[1] as i64);
+    let sine = weight(e, m, row[4] as i64) * sine_in(table, angle);
+    let cosine = cosine_term(table, weight(e, m, row[5] as i64), angle);
+    TermSums { sine, cosine }
+}
+
+// All rows of a table by sine and by cosine.
+fn term_sums(
+    table: &[u32; 361],
+    arguments: [i64; 5],
+    e: Eccentricity,
+    terms: &[[i32; 6]],
+) -> TermSums
+    requires { ⌜ (now table ≡ sines) × (Turns arguments × (Slight e × Summable (now terms))) ⌝ }
+    ensures { λ r. ⌜
+        (r .sine ≡ total (sine-term arguments e) (now (terms .entry)))
+        × (r .cosine ≡ total (cosine-term arguments e) (now (terms .entry))) ⌝ }
+{
+    let mut sine: i64 = 0;
+    let mut cosine: i64 = 0;
+    let mut i: usize = 0;
+    while i < terms.len() {
+        let row = row_terms(table, arguments, e, terms[i]);
+        sine = sine + row.sine;
+        cosine = cosine + row.cosine;
+        i = i + 1;
+    }
+    TermSums { sine, cosine }
+}
