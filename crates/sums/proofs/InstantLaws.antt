@@ -1,38 +1,52 @@
 -- Sizes of the powers of an accepted instant: little more than a million on either side of zero.
-use mathlib.Core.Path.{_∙_, _≡_, ap}
+use mathlib.Core.Path.{_∙_, _≡_, ap, refl, subst⁻¹}
 use Prim.Native.Nat.{_+_, _/_, _<_, _^_, _≤_, ℕ}
 use native.Mathlib.Nat.{le-refl, le-trans}
+use native.Mathlib.Omega.{arith}
 use lib.Dec.{T, leb, leb→le}
-use lib.IntN.{_*ℤ_, natAbs, pos, ℤ}
+use lib.IntN.{_*ℤ_, _+ℤ_, natAbs, pos, ℤ}
 use lib.Signed.{mag}
 use Rattle.arithmetic.specs.Floor.{⌊_÷_⌋}
 use Rattle.arithmetic.proofs.FloorLaws.{floor-most, floor-small}
 use Rattle.arithmetic.proofs.Sizes.{mul-bound}
+use Rattle.numbers.specs.Angle.{full-turn}
 use Rattle.numbers.proofs.Machine.{Mirror, gave}
-use Rattle.sums.specs.Instant.{century, furthest, p2, p3, p4, u}
+use Rattle.numbers.proofs.SineLaws.{reduced-below}
+use Rattle.sums.specs.Instant.{Reached, century, furthest, p2, p3, p4, powers, u, value}
+use Rattle.sums.specs.declared.instant.Polynomial.{Polynomial}
+use Rattle.sums.specs.declared.instant.Powers.{Powers}
 
 -- a floor of a number of at most m
-floor-within : (z : ℤ) (d : ℕ) {m k : ℕ} → natAbs z ≤ m → T (leb (m / d + 1) k) → natAbs ⌊ z ÷ d ⌋ ≤ k
-floor-within z d {m} {k} h t = le-trans (floor-most z d m h) (leb→le (m / d + 1) k t)
+pub floor-size : (z : ℤ) (d : ℕ) {m k : ℕ} → natAbs z ≤ m → T (leb (m / d + 1) k) → natAbs ⌊ z ÷ d ⌋ ≤ k
+floor-size z d {m} {k} h t = le-trans (floor-most z d m h) (leb→le (m / d + 1) k t)
 
 module _ (n : ℤ) (h : natAbs n ≤ furthest) where
   pub u-most : natAbs (u n) ≤ 1_011_001
   unfolding u
-  u-most = floor-within (pos 1_000_000 *ℤ n) century (mul-bound (pos 1_000_000) n (le-refl 1_000_000) h) tt
+  u-most = floor-size (pos 1_000_000 *ℤ n) century (mul-bound (pos 1_000_000) n (le-refl 1_000_000) h) tt
 
   pub p2-most : natAbs (p2 n) ≤ 1_022_124
   unfolding p2
-  p2-most = floor-within (u n *ℤ u n) 1_000_000 (mul-bound (u n) (u n) u-most u-most) tt
+  p2-most = floor-size (u n *ℤ u n) 1_000_000 (mul-bound (u n) (u n) u-most u-most) tt
 
   pub p3-most : natAbs (p3 n) ≤ 1_033_369
   unfolding p3
-  p3-most = floor-within (p2 n *ℤ u n) 1_000_000 (mul-bound (p2 n) (u n) p2-most u-most) tt
+  p3-most = floor-size (p2 n *ℤ u n) 1_000_000 (mul-bound (p2 n) (u n) p2-most u-most) tt
 
   pub p4-most : natAbs (p4 n) ≤ 1_044_738
   unfolding p4
-  p4-most = floor-within (p2 n *ℤ p2 n) 1_000_000 (mul-bound (p2 n) (p2 n) p2-most p2-most) tt
+  p4-most = floor-size (p2 n *ℤ p2 n) 1_000_000 (mul-bound (p2 n) (p2 n) p2-most p2-most) tt
 
 -- what a floor by a divisor that is not a numeral gave: no larger than what was divided
 abbrev pub small-floor-gave : {r : ℤ} (x : Mirror) (d : ℕ) → mag r < 2 ^ 63 → r ≡ ⌊ x .machine ÷ d ⌋ → Mirror
 small-floor-gave {r} x d f e =
     gave {r = r} {v = ⌊ x .number ÷ d ⌋} {m = x .most} f (e ∙ ap (λ (z : ℤ). ⌊ z ÷ d ⌋) (x .same)) (le-trans (floor-small (x .number) d) (x .bound))
+
+pub value-small : (p : Polynomial) (n : ℤ) → value p n ≤ full-turn
+unfolding value
+value-small p n =
+    let z : ℤ = p .c0 +ℤ ⌊ p .c1 *ℤ n ÷ century ⌋ +ℤ ⌊ p .c2 *ℤ p2 n ÷ 1_000_000 ⌋ +ℤ ⌊ pos 100 *ℤ p .s3 *ℤ p3 n ÷ p .k3 ⌋ +ℤ ⌊ pos 100 *ℤ p .s4 *ℤ p4 n ÷ p .k4 ⌋ in
+    omega (arith, reduced-below z)
+
+pub reached : {t : Powers} {n : ℤ} → t ≡ powers n → natAbs n ≤ furthest → Reached t
+reached {n} e h = subst⁻¹ Reached e (record { is = refl; near = h })

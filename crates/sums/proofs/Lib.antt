@@ -3,3 +3,12 @@ pub mod TableLaws
 pub mod NarrowMirror
 pub mod SumLoop
 pub mod MoonLaws
+pub mod FloorsNear
+pub mod WeightedSum
+pub mod AnglesNear
+pub mod PowersNear
+pub mod MoonWeights
+pub mod MoonNear
+pub mod SunAngles
+pub mod SunNear
+pub mod Accurate

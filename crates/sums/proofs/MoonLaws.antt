@@ -1,17 +1,31 @@
 -- Sizes of the Moon's terms.
-use mathlib.Core.List.{List}
-use Prim.Native.Nat.{_*_, _+_, _/_, _^_, _≤_, suc, zero, ℕ}
+use mathlib.Core.Bool.{Bool, _&&_}
+use mathlib.Core.List.{List, [], _∷_}
+use mathlib.Core.Path.{_∙_, _≡_, ap}
+use Prim.Native.Nat.{_*_, _+_, _/_, _<_, _^_, _≤_, suc, zero, zero-le, ℕ}
 use native.Mathlib.Nat.{le-refl, le-trans}
 use native.Mathlib.Omega.{arith}
-use lib.IntN.{_*ℤ_, natAbs, pos, ℤ}
+use lib.Dec.{T, leb, leb→le}
+use lib.IntN.{_*ℤ_, _+ℤ_, natAbs, pos, ℤ}
+use lib.ListN.{getD}
+use lib.Signed.{mag}
+use mir.Facts.{and-yes}
 use Rattle.arithmetic.specs.Floor.{⌊_÷_⌋}
 use Rattle.arithmetic.proofs.FloorLaws.{floor-most}
-use Rattle.arithmetic.proofs.Sizes.{abs-mul, mul-bound}
+use Rattle.arithmetic.proofs.Sizes.{abs-mul, add-bound, mul-bound}
+use Rattle.arithmetic.proofs.Table.{at, every}
+use Rattle.numbers.specs.Angle.{full-turn}
 use Rattle.numbers.specs.Sine.{cosine, sine}
+use Rattle.numbers.proofs.Machine.{Mirror, gave}
 use Rattle.numbers.proofs.SineSize.{cosine-most, sine-most}
-use Rattle.sums.specs.Moon.{Slight, cosine-term, row-angle, sine-term, spread, weight}
-use Rattle.sums.specs.Table.{column}
+use Rattle.sums.specs.Instant.{furthest, minus, p2, u}
+use Rattle.sums.specs.Moon.{E, E2, Slight, SmallRow, Summable, Turns, added, arguments, cosine-term, eccentricity, row-angle, sine-term, spread, weight}
+use Rattle.sums.specs.MoonTerms.{L′, M′, latitude-terms, longitude-distance-terms}
+use Rattle.sums.specs.Table.{column, count, total}
 use Rattle.sums.specs.declared.moon.Eccentricity.{Eccentricity}
+use Rattle.sums.proofs.InstantLaws.{floor-size, p2-most, u-most, value-small}
+use Rattle.sums.proofs.TableLaws.{total-size}
+use Rattle.sums.specs.MoonTerms as Of
 
 scaled : (l e : ℤ) → natAbs e ≤ 2 ^ 20 → natAbs ⌊ l *ℤ e ÷ 10_000 ⌋ ≤ 105 * natAbs l + 1
 scaled l e h = le-trans (floor-most (l *ℤ e) 10_000 (natAbs l * 2 ^ 20) (mul-bound l e (le-refl (natAbs l)) h)) (below (natAbs l))
@@ -36,3 +50,99 @@ cosine-term-most args e s row =
 
 pub weight-small : (e : Eccentricity) → Slight e → (m : ℕ) (l : ℤ) → natAbs l ≤ 2 ^ 25 → natAbs (weight e m l) ≤ 2 ^ 32
 weight-small e s m l h = omega (arith, weight-most e s m l, h)
+
+-- the arguments are reduced
+pub arguments-turn : (n : ℤ) → Turns (arguments n)
+arguments-turn n = record { within = go }
+  where
+    go : (i : ℕ) → natAbs (column (arguments n) i) ≤ full-turn
+    go zero = value-small Of.L′ n
+    go (suc zero) = value-small Of.D n
+    go (suc (suc zero)) = value-small Of.M n
+    go (suc (suc (suc zero))) = value-small Of.M′ n
+    go (suc (suc (suc (suc zero)))) = value-small Of.F n
+    go (suc (suc (suc (suc (suc i))))) = zero-le
+
+module _ (n : ℤ) (h : natAbs n ≤ furthest) where
+  E-most : natAbs (E n) ≤ 1_003_000
+  unfolding E
+  E-most =
+      le-trans
+      (add-bound (pos 1_000_000 +ℤ ⌊ minus 2516 *ℤ u n ÷ 1_000_000 ⌋) ⌊ minus 74 *ℤ p2 n ÷ 10_000_000 ⌋
+      (add-bound (pos 1_000_000) ⌊ minus 2516 *ℤ u n ÷ 1_000_000 ⌋ (le-refl 1_000_000)
+      (floor-size (minus 2516 *ℤ u n) 1_000_000 {k = 2_545} (mul-bound (minus 2516) (u n) (le-refl 2516) (u-most n h)) tt))
+      (floor-size (minus 74 *ℤ p2 n) 10_000_000 {k = 9} (mul-bound (minus 74) (p2 n) (le-refl 74) (p2-most n h)) tt))
+      (leb→le (1_000_000 + 2_545 + 9) 1_003_000 tt)
+
+  E2-most : natAbs (E2 n) ≤ 2 ^ 20
+  unfolding E2
+  E2-most = floor-size (E n *ℤ E n) 1_000_000 (mul-bound (E n) (E n) E-most E-most) tt
+
+  pub eccentricity-slight : Slight (eccentricity n)
+  eccentricity-slight = record { once = le-trans E-most (leb→le 1_003_000 (2 ^ 20) tt); twice = E2-most }
+
+-- a row is small where each of its columns is: a test of the columns 0, 1, ..
+abbrev bounds : List ℕ
+bounds = 4 ∷ 4 ∷ 4 ∷ 4 ∷ 2 ^ 25 ∷ 2 ^ 25 ∷ []
+
+abbrev small-column : List ℤ → ℕ → ℕ → Bool
+small-column row i bound = leb (natAbs (column row i)) bound
+
+unfoldable small-test : ℕ → List ℤ → Bool
+small-test k row = every (small-column row) 0 0 bounds
+
+small-row : (k : ℕ) (row : List ℤ) → T (small-test k row) → SmallRow row
+unfolding small-test
+small-row k row t = record { multiples = multiple; by-sine = column-small 4 (leb→le 5 6 tt); by-cosine = column-small 5 (leb→le 6 6 tt) }
+  where
+    column-small : (i : ℕ) → i < 6 → natAbs (column row i) ≤ getD bounds i 0
+    column-small i h = leb→le (natAbs (column row i)) (getD bounds i 0) (at (small-column row) 0 bounds t i h)
+
+    multiple : (i : ℕ) → i ≤ 3 → natAbs (column row i) ≤ 4
+    multiple zero h = column-small 0 (leb→le 1 6 tt)
+    multiple (suc zero) h = column-small 1 (leb→le 2 6 tt)
+    multiple (suc (suc zero)) h = column-small 2 (leb→le 3 6 tt)
+    multiple (suc (suc (suc zero))) h = column-small 3 (leb→le 4 6 tt)
+    multiple (suc (suc (suc (suc i)))) h = absurd (none i h)
+      where
+        none : (i : ℕ) → suc (suc (suc (suc i))) ≤ 3 → ⊥
+        none i h = omega arith
+
+-- a table, by one test
+abbrev fits-test : List (List ℤ) → Bool
+fits-test terms = every small-test [] 0 terms && (leb (count (spread 4) terms) (2 ^ 62) && leb (count (spread 5) terms) (2 ^ 62))
+
+summable : (terms : List (List ℤ)) → T (fits-test terms) → Summable terms
+summable terms t = record {
+  each = λ i h. small-row i (getD terms i []) (at small-test [] terms (and-yes (every small-test [] 0 terms) _ t .0) i h);
+  by-sine = leb→le (count (spread 4) terms) (2 ^ 62) (sums .0);
+  by-cosine = leb→le (count (spread 5) terms) (2 ^ 62) (sums .1);
+}
+  where
+    sums : T (leb (count (spread 4) terms) (2 ^ 62)) × T (leb (count (spread 5) terms) (2 ^ 62))
+    sums = and-yes (leb (count (spread 4) terms) (2 ^ 62)) _ (and-yes (every small-test [] 0 terms) _ t .1)
+
+pub longitude-distance-fits : Summable longitude-distance-terms
+unfolding longitude-distance-terms small-test count
+longitude-distance-fits = summable longitude-distance-terms tt
+
+pub latitude-fits : Summable latitude-terms
+unfolding latitude-terms small-test count
+latitude-fits = summable latitude-terms tt
+
+-- the sums of a table are small
+module _ (args : List ℤ) (e : Eccentricity) (slight : Slight e) (terms : List (List ℤ)) (fit : Summable terms) where
+  pub by-sine-small : natAbs (total (sine-term args e) terms) ≤ 2 ^ 62
+  by-sine-small = le-trans (total-size (sine-term args e) (spread 4) (sine-term-most args e slight) terms) (fit .by-sine)
+
+  pub by-cosine-small : natAbs (total (cosine-term args e) terms) ≤ 2 ^ 62
+  by-cosine-small = le-trans (total-size (cosine-term args e) (spread 5) (cosine-term-most args e slight) terms) (fit .by-cosine)
+
+-- what a term outside the tables gave, at the angle a
+pub added-small : (w a : ℤ) → T (leb (natAbs w) 4_000) → natAbs (added w a) ≤ 2 ^ 49
+added-small w a t =
+    le-trans (mul-bound (pos 100 *ℤ w) (sine a) (mul-bound (pos 100) w (le-refl 100) (leb→le (natAbs w) 4_000 t)) (sine-most a))
+    (leb→le (100 * 4_000 * 1_000_000_001) (2 ^ 49) tt)
+
+abbrev pub added-gave : (w a : ℤ) {r z : ℤ} → mag r < 2 ^ 63 → r ≡ added w z → z ≡ a → T (leb (natAbs w) 4_000) → Mirror
+added-gave w a {r} ok e same t = gave {r = r} {v = added w a} ok (e ∙ ap (added w) same) (added-small w a t)

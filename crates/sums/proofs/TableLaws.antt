@@ -1,8 +1,8 @@
 -- Sums over tables: what one row adds, and how large they get.
 use mathlib.Core.List.{List, [], _∷_}
-use mathlib.Core.Path.{_∙_, _≡_, ap, refl}
+use mathlib.Core.Path.{_∙_, _≡_, ap, refl, subst}
 use Prim.Native.Nat.{_<_, _≤_, suc, zero, zero-le, ℕ}
-use native.Mathlib.Nat.{le-add-left, le-add-right, le-of-suc-le-suc, le-trans, not-suc-le-zero}
+use native.Mathlib.Nat.{le-add-left, le-add-right, le-of-suc-le-suc, le-refl, le-trans, not-suc-le-zero}
 use lib.IntN.{_+ℤ_, natAbs, ℤ}
 use lib.ListN.{getD, length, take}
 use Rattle.arithmetic.proofs.Integers.{solveℤ}
@@ -37,3 +37,6 @@ module _ {A : Type 0} where
   count-row g [] i d h = absurd (not-suc-le-zero h)
   count-row g (row ∷ rows) zero d h = le-add-right (g row) (count g rows)
   count-row g (row ∷ rows) (suc i) d h = le-trans (count-row g rows i d (le-of-suc-le-suc h)) (le-add-left (count g rows) (g row))
+
+  pub total-size : (f : A → ℤ) (g : A → ℕ) → ((row : A) → natAbs (f row) ≤ g row) → (rows : List A) → natAbs (total f rows) ≤ count g rows
+  total-size f g h rows = subst (λ (r : List A). natAbs (total f r) ≤ count g rows) (take-all rows (length rows) (le-refl (length rows))) (total-most f g h rows (length rows))

@@ -79,20 +79,26 @@ pub record Summable (terms : List (List ℤ)) : Type 0 where
 abbrev pub added : ℤ → ℤ → ℤ
 added w a = pos 100 *ℤ w *ℤ sine a
 
+abbrev pub longitude-added : ℤ → List ℤ → ℤ → ℤ → ℤ
+longitude-added sum arguments a1 a2 = sum
+    +ℤ added (pos 3958) a1
+    +ℤ added (pos 1962) (column arguments 0 -ℤ column arguments 4)
+    +ℤ added (pos 318) a2
+
+abbrev pub latitude-added : ℤ → List ℤ → ℤ → ℤ → ℤ
+latitude-added sum arguments a1 a3 = sum
+    +ℤ added (minus 2235) (column arguments 0)
+    +ℤ added (pos 382) a3
+    +ℤ added (pos 175) (a1 -ℤ column arguments 4)
+    +ℤ added (pos 175) (a1 +ℤ column arguments 4)
+    +ℤ added (pos 127) (column arguments 0 -ℤ column arguments 3)
+    +ℤ added (minus 115) (column arguments 0 +ℤ column arguments 3)
+
 abbrev pub longitude-sum : ℤ → ℤ
-longitude-sum n = by-sine n longitude-distance-terms
-    +ℤ added (pos 3958) (argument Of.A1 n)
-    +ℤ added (pos 1962) (argument Of.L′ n -ℤ argument Of.F n)
-    +ℤ added (pos 318) (argument Of.A2 n)
+longitude-sum n = longitude-added (by-sine n longitude-distance-terms) (arguments n) (argument Of.A1 n) (argument Of.A2 n)
 
 abbrev pub latitude-sum : ℤ → ℤ
-latitude-sum n = by-sine n latitude-terms
-    +ℤ added (minus 2235) (argument Of.L′ n)
-    +ℤ added (pos 382) (argument Of.A3 n)
-    +ℤ added (pos 175) (argument Of.A1 n -ℤ argument Of.F n)
-    +ℤ added (pos 175) (argument Of.A1 n +ℤ argument Of.F n)
-    +ℤ added (pos 127) (argument Of.L′ n -ℤ argument Of.M′ n)
-    +ℤ added (minus 115) (argument Of.L′ n +ℤ argument Of.M′ n)
+latitude-sum n = latitude-added (by-sine n latitude-terms) (arguments n) (argument Of.A1 n) (argument Of.A3 n)
 
 abbrev pub distance-sum : ℤ → ℤ
 distance-sum n = by-cosine n longitude-distance-terms

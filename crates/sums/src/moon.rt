@@ -18,9 +18,10 @@ ghost use lib.ListN.{getD};
 ghost use Rattle.numbers.specs.Sine.{cosine};
 ghost use Rattle.numbers.specs.SineTable.{sines};
 ghost use Rattle.sums.specs.Instant.{furthest, Reached, value};
+ghost use Rattle.sums.specs.Accuracy.{MoonNear};
 ghost use Rattle.sums.specs.Table.{total};
 ghost use Rattle.sums.specs.MoonTerms.{A1, A2, A3};
-ghost use Rattle.sums.specs.Moon.{arguments, eccentricity, weight, row-angle, sine-term, cosine-term, added, Turns, Slight, SmallRow, Summable};
+ghost use Rattle.sums.specs.Moon.{arguments, eccentricity, weight, row-angle, sine-term, cosine-term, added, longitude-added, latitude-added, longitude, latitude, metres, Turns, Slight, SmallRow, Summable};
 
 // L'.
 const MEAN_LONGITUDE: Polynomial = Polynomial {
@@ -114,6 +115,13 @@ const THIRD: Polynomial = Polynomial {
 pub struct Eccentricity {
     pub e: i64,
     pub e2: i64,
+}
+
+// Before nutation: longitude and latitude in 10⁻⁸ degree, and metres from the Earth's centre.
+pub struct MoonPlace {
+    pub longitude: u64,
+    pub latitude: i64,
+    pub metres: i64,
 }
 
 // What is summed by sine and by cosine.
@@ -215,4 +223,67 @@ fn term_sums(
         i = i + 1;
     }
     TermSums { sine, cosine }
+}
+
+// A term outside the tables, at weight 100.
+fn added(table: &[u32; 361], weight: i64, angle: i64) -> i64
+    requires { ⌜ (now table ≡ sines) × (natAbs weight ≤ 4_000) ⌝ }
+    ensures { λ r. ⌜ r ≡ added weight angle ⌝ }
+{
+    100 * weight * sine_in(table, angle)
+}
+
+// The longitude's rows and what is added to them.
+fn longitude_added(table: &[u32; 361], sum: i64, arguments: [i64; 5], a1: i64, a2: i64) -> i64
+    requires { ⌜ (now table ≡ sines) × ((natAbs sum ≤ 2 ^ 62) × Turns arguments) ⌝ }
+    ensures { λ r. ⌜ r ≡ longitude-added sum arguments a1 a2 ⌝ }
+{
+    sum
+        + added(table, 3958, a1)
+        + added(table, 1962, arguments[0] - arguments[4])
+        + added(table, 318, a2)
+}
+
+// The latitude's rows and what is added to them.
+fn latitude_added(table: &[u32; 361], sum: i64, arguments: [i64; 5], a1: i64, a3: i64) -> i64
+    requires { ⌜ (now table ≡ sines) × ((natAbs sum ≤ 2 ^ 62) × (Turns arguments × (natAbs a1 ≤ 2 ^ 36))) ⌝ }
+    ensures { λ r. ⌜ r ≡ latitude-added sum arguments a1 a3 ⌝ }
+{
+    sum
+        + added(table, -2235, arguments[0])
+        + added(table, 382, a3)
+        + added(table, 175, a1 - arguments[4])
+        + added(table, 175, a1 + arguments[4])
+        + added(table, 127, arguments[0] - arguments[3])
+        + added(table, -115, arguments[0] + arguments[3])
+}
+
+// The Moon at TT, over a lent sine table and the powers of the instant.
+pub fn moon_at(table: &[u32; 361], t: Powers) -> MoonPlace
+    requires { ⌜ (now table ≡ sines) × Reached t ⌝ }
+    ensures { λ r. ⌜
+        (r .longitude ≡ longitude (t .n)) × ((r .latitude ≡ latitude (t .n)) × ((r .metres ≡ metres (t .n)) × MoonNear (t .n))) ⌝ }
+{
+    let arguments = arguments(t);
+    let e = eccentricity_at(t);
+    let a1 = value_at(VENUS, t);
+    let a2 = value_at(JUPITER, t);
+    let a3 = value_at(THIRD, t);
+    let first = term_sums(table, arguments, e, &longitude_distance_terms());
+    let second = term_sums(table, arguments, e, &latitude_terms());
+    let longitude_sum = longitude_added(table, first.sine, arguments, a1, a2);
+    let latitude_sum = latitude_added(table, second.sine, arguments, a1, a3);
+    MoonPlace {
+        longitude: Angle::new(arguments[0] + floor_div(longitude_sum, 1_000_000_000)).units,
+        latitude: floor_div(latitude_sum, 1_000_000_000),
+        metres: 385_000_560 + floor_div(first.cosine, 100_000_000_000),
+    }
+}
+
+// The Moon at TT.
+pub fn moon(n: i64) -> MoonPlace
+    requires { ⌜ natAbs n ≤ furthest ⌝ }
+    ensures { λ r. ⌜ (r .longitude ≡ longitude n) × ((r .latitude ≡ latitude n) × ((r .metres ≡ metres n) × MoonNear n)) ⌝ }
+{
+    moon_at(&table(), powers_at(n))
 }

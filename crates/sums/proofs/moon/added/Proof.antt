@@ -1,0 +1,32 @@
+-- `sums::moon::added` meets its contract.
+use mathlib.Core.Path.{_∙_, ap}
+use lib.IntN.{pos}
+use borrow.Author.Needs.{needs}
+use Rattle.numbers.specs.Sine.{sine}
+use Rattle.numbers.proofs.Machine.{Mirror, _⊗_, any, arg, fits, gave, kept, lit}
+use Rattle.numbers.proofs.SineSize.{sine-most}
+use Rattle.sums.proofs.moon.added.Statement.{statement}
+use Rattle.sums.proofs.moon.added.Tie as tie
+
+abbrev factor : tie.Start → Mirror
+factor s = lit (pos 100) ⊗ arg (s .fits .weight) (s .pre .1)
+
+abbrev product : tie.After-sine-in → Mirror
+product c =
+    kept (factor (c .before)) tt
+    ⊗ gave (c .sine-in .ok) (c .sine-in .ensures ∙ ap sine (any (c .before .fits .angle) .same)) (sine-most (c .before .args .angle))
+
+mul-result : tie.Need-mul-result
+mul-result c = fits (factor c) tt
+
+sine-in-requires : tie.Need-sine-in-requires
+sine-in-requires c κs = search needs
+
+mul-result-2 : tie.Need-mul-result-2
+mul-result-2 c = fits (product c) tt
+
+returns : tie.Need-returns
+returns c = kept (product c) tt .same
+
+pub added-spec : {M : Type 1} → statement M
+added-spec = tie.close (tie.spec mul-result sine-in-requires mul-result-2 returns)

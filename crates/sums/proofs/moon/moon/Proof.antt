@@ -1,0 +1,32 @@
+-- `sums::moon::moon` meets its contract.
+use mathlib.Core.Path.{_∙_, _≡_, ap, subst}
+use lib.IntN.{ℤ}
+use borrow.Author.Needs.{needs}
+use Rattle.numbers.proofs.Machine.{any}
+use Rattle.sums.specs.Accuracy.{MoonNear}
+use Rattle.sums.specs.Instant.{powers}
+use Rattle.sums.specs.Moon.{latitude, longitude, metres}
+use Rattle.sums.specs.declared.instant.Powers.{Powers}
+use Rattle.sums.proofs.InstantLaws.{reached}
+use Rattle.sums.proofs.moon.moon.Statement.{statement}
+use Rattle.sums.proofs.moon.moon.Tie as tie
+
+is-powers : (c : tie.After-powers-at) → c .powers-at .result ≡ powers (c .before .before .before .args .n)
+is-powers c = c .powers-at .ensures ∙ ap powers (any (c .before .before .before .fits .n) .same)
+
+table-requires : tie.Need-table-requires
+table-requires c κs = search needs
+
+powers-at-requires : tie.Need-powers-at-requires
+powers-at-requires c κs = search needs
+
+moon-at-requires : tie.Need-moon-at-requires
+moon-at-requires c κs = (c .before .before .table .ensures, reached (is-powers c) (c .before .before .before .pre))
+
+returns : tie.Need-returns
+returns c =
+    subst (λ (n : ℤ). (c .moon-at .result .longitude ≡ longitude n) × ((c .moon-at .result .latitude ≡ latitude n) × ((c .moon-at .result .metres ≡ metres n) × MoonNear n)))
+    (ap (λ (t : Powers). t .n) (is-powers (c .before))) (c .moon-at .ensures)
+
+pub moon-spec : {M : Type 1} → statement M
+moon-spec = tie.close (tie.spec table-requires powers-at-requires moon-at-requires returns)
