@@ -3,6 +3,7 @@ pub mod TableLaws
 pub mod NarrowMirror
 pub mod SumLoop
 pub mod MoonLaws
+pub mod SunLaws
 pub mod FloorsNear
 pub mod WeightedSum
 pub mod AnglesNear

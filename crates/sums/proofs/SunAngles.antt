@@ -21,6 +21,7 @@ use Rattle.numbers.specs.SineTable.{sines}
 use Rattle.numbers.proofs.SineTableLaws.{billion}
 use Rattle.sums.specs.ExactSums.{centuries, millennia, ray-angle}
 use Rattle.sums.specs.Instant.{century, millennium}
+use Rattle.sums.proofs.SunLaws.{angle-zero, cosine-zero}
 use Rattle.sums.proofs.AnglesNear.{Agrees, cosine-wave, degree, ripple, turn, wave-near, widest}
 use Rattle.sums.proofs.FloorsNear.{floor-near, floored-multiple, near-add, near-small, same-near}
 use Rattle.sums.proofs.PowersNear.{reach}
@@ -80,10 +81,6 @@ cosine-error (suc b) c = ripple (angle-error (suc b) c)
 exact-at-zero : cos° (nat 0) ≡ nat 1
 unfolding cos° floor ⌊_÷_⌋ sum sign power factorial whole inv _+q_ _*q_ negq
 exact-at-zero = Quot·sound refl
-
-whole-at-zero : cosine (pos 0) ≡ pos 1_000_000_000
-unfolding cosine sine sine-at reduced _modulo_ negated-from-half fold half-fold quarter-sine sines
-whole-at-zero = refl
 
 module _ (n : ℤ) (bound : Within (centuries n) reach) where
   abbrev τ : ℚ
@@ -170,14 +167,9 @@ module _ (n : ℤ) (bound : Within (centuries n) reach) where
     }
 
   -- a constant row: the angle is zero
-  angle-zero : Sun.row-angle n 0 0 ≡ 0
-  unfolding Sun.row-angle _modulo_ ⌊_÷_⌋
-  angle-zero =
-      ap (λ z. (pos 0 +ℤ ⌊ z ÷ millennium ⌋) modulo 628_318_531 * 5_729_577_951 / 100_000_000) (solveℤ (k0 :* x0) k0 (n ∷ []) tt)
-
   constant-near : Within (whole (cosine (pos (Sun.row-angle n 0 0))) -q billion *q cos° (ray-angle τ 0 0)) (nat 0)
   constant-near =
-      subst₂ (λ x y. Within (whole x -q billion *q y) (nat 0)) (sym (ap (λ z. cosine (pos z)) angle-zero ∙ whole-at-zero))
+      subst₂ (λ x y. Within (whole x -q billion *q y) (nat 0)) (sym (ap (λ z. cosine (pos z)) (angle-zero n) ∙ cosine-zero))
       (sym (ap cos° (solveq ((k0 :* x0 :+ k0 :* x0 :* x1) :* x2) k0 (inv 99_999_999 ∷ τ ∷ exact-rate ∷ []) tt) ∙ exact-at-zero))
       (subst (λ z. Within (billion -q z) (nat 0)) (solveq x0 (x0 :* k1) (billion ∷ []) tt) (same-near billion))
 

@@ -3,4 +3,5 @@ pub mod instant;
 pub mod moon;
 pub mod moon_terms;
 pub mod nutation_terms;
+pub mod sun;
 pub mod sun_terms;

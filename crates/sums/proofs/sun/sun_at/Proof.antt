@@ -1,0 +1,28 @@
+-- `sums::sun::sun_at` meets its contract.
+use borrow.Author.Needs.{needs}
+use Rattle.numbers.proofs.Machine.{passed}
+use Rattle.sums.proofs.Accurate.{sun-near}
+use Rattle.sums.proofs.sun.sun_at.Statement.{statement}
+use Rattle.sums.proofs.sun.sun_at.Tie as tie
+
+heliocentric-longitude-requires : tie.Need-heliocentric-longitude-requires
+heliocentric-longitude-requires c κs = search needs
+
+heliocentric-latitude-requires : tie.Need-heliocentric-latitude-requires
+heliocentric-latitude-requires c κs = search needs
+
+heliocentric-radius-requires : tie.Need-heliocentric-radius-requires
+heliocentric-radius-requires c κs = search needs
+
+returns : tie.Need-returns
+returns c =
+    let s = c .before .before .before in (
+      passed (c .before .before .heliocentric-longitude .ok) (c .before .before .heliocentric-longitude .ensures),
+      (
+        passed (c .before .heliocentric-latitude .ok) (c .before .heliocentric-latitude .ensures),
+        (passed (c .heliocentric-radius .ok) (c .heliocentric-radius .ensures), sun-near (s .args .t .n) (s .pre .1 .near)),
+      ),
+    )
+
+pub sun-at-spec : {M : Type 1} → statement M
+sun-at-spec = tie.close (tie.spec heliocentric-longitude-requires heliocentric-latitude-requires heliocentric-radius-requires returns)
