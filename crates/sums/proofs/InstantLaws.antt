@@ -1,6 +1,6 @@
 -- Sizes of the powers of an accepted instant: little more than a million on either side of zero.
 use mathlib.Core.Path.{_∙_, _≡_, ap, refl, subst⁻¹}
-use Prim.Native.Nat.{_+_, _/_, _<_, _^_, _≤_, ℕ}
+use Prim.Native.Nat.{_*_, _+_, _/_, _<_, _^_, _≤_, ℕ}
 use native.Mathlib.Nat.{le-refl, le-trans}
 use native.Mathlib.Omega.{arith}
 use lib.Dec.{T, leb, leb→le}
@@ -12,7 +12,8 @@ use Rattle.arithmetic.proofs.Sizes.{mul-bound}
 use Rattle.numbers.specs.Angle.{full-turn}
 use Rattle.numbers.proofs.Machine.{Mirror, gave}
 use Rattle.numbers.proofs.SineLaws.{reduced-below}
-use Rattle.sums.specs.Instant.{Reached, century, furthest, p2, p3, p4, powers, u, value}
+use Rattle.sums.specs.Instant.{Reached, century, day, furthest, minus, p2, p3, p4, powers, u, value}
+use Rattle.sums.specs.Sidereal.{mean}
 use Rattle.sums.specs.declared.instant.Polynomial.{Polynomial}
 use Rattle.sums.specs.declared.instant.Powers.{Powers}
 
@@ -50,3 +51,10 @@ value-small p n =
 
 pub reached : {t : Powers} {n : ℤ} → t ≡ powers n → natAbs n ≤ furthest → Reached t
 reached {n} e h = subst⁻¹ Reached e (record { is = refl; near = h })
+
+-- the mean sidereal time is reduced
+pub mean-most : (ut : ℤ) → mean ut ≤ full-turn
+unfolding mean
+mean-most ut =
+    let z : ℤ = pos 28_046_061_837 +ℤ ⌊ pos 36_098_564_736_629 *ℤ ut ÷ 1000 * day ⌋ +ℤ ⌊ pos 387_933 *ℤ p2 ut ÷ 10_000_000 ⌋ +ℤ ⌊ minus 100 *ℤ p3 ut ÷ 38_710_000 ⌋ in
+    omega (arith, reduced-below z)

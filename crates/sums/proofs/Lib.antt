@@ -3,6 +3,7 @@ pub mod TableLaws
 pub mod NarrowMirror
 pub mod SumLoop
 pub mod MoonLaws
+pub mod NutationLaws
 pub mod SunLaws
 pub mod FloorsNear
 pub mod WeightedSum

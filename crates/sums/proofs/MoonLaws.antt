@@ -7,24 +7,23 @@ use native.Mathlib.Nat.{le-refl, le-trans}
 use native.Mathlib.Omega.{arith}
 use lib.Dec.{T, leb, leb→le}
 use lib.IntN.{_*ℤ_, _+ℤ_, natAbs, pos, ℤ}
-use lib.ListN.{getD}
 use lib.Signed.{mag}
 use mir.Facts.{and-yes}
 use Rattle.arithmetic.specs.Floor.{⌊_÷_⌋}
 use Rattle.arithmetic.proofs.FloorLaws.{floor-most}
 use Rattle.arithmetic.proofs.Sizes.{abs-mul, add-bound, mul-bound}
-use Rattle.arithmetic.proofs.Table.{at, every}
+use Rattle.arithmetic.proofs.Table.{every}
 use Rattle.numbers.specs.Angle.{full-turn}
 use Rattle.numbers.specs.Sine.{cosine, sine}
 use Rattle.numbers.proofs.Machine.{Mirror, gave}
 use Rattle.numbers.proofs.SineSize.{cosine-most, sine-most}
 use Rattle.sums.specs.Instant.{furthest, minus, p2, u}
-use Rattle.sums.specs.Moon.{E, E2, Slight, SmallRow, Summable, Turns, added, arguments, cosine-term, eccentricity, row-angle, sine-term, spread, weight}
+use Rattle.sums.specs.Moon.{E, E2, Slight, Summable, Turns, added, arguments, cosine-term, eccentricity, row-angle, sine-term, spread, weight}
 use Rattle.sums.specs.MoonTerms.{L′, M′, latitude-terms, longitude-distance-terms}
 use Rattle.sums.specs.Table.{column, count, total}
 use Rattle.sums.specs.declared.moon.Eccentricity.{Eccentricity}
 use Rattle.sums.proofs.InstantLaws.{floor-size, p2-most, u-most, value-small}
-use Rattle.sums.proofs.TableLaws.{total-size}
+use Rattle.sums.proofs.TableLaws.{bounded-rows, bounded-test, total-size}
 use Rattle.sums.specs.MoonTerms as Of
 
 scaled : (l e : ℤ) → natAbs e ≤ 2 ^ 20 → natAbs ⌊ l *ℤ e ÷ 10_000 ⌋ ≤ 105 * natAbs l + 1
@@ -81,53 +80,29 @@ module _ (n : ℤ) (h : natAbs n ≤ furthest) where
   pub eccentricity-slight : Slight (eccentricity n)
   eccentricity-slight = record { once = le-trans E-most (leb→le 1_003_000 (2 ^ 20) tt); twice = E2-most }
 
--- a row is small where each of its columns is: a test of the columns 0, 1, ..
+-- a table, by one test
 abbrev bounds : List ℕ
 bounds = 4 ∷ 4 ∷ 4 ∷ 4 ∷ 2 ^ 25 ∷ 2 ^ 25 ∷ []
 
-abbrev small-column : List ℤ → ℕ → ℕ → Bool
-small-column row i bound = leb (natAbs (column row i)) bound
-
-unfoldable small-test : ℕ → List ℤ → Bool
-small-test k row = every (small-column row) 0 0 bounds
-
-small-row : (k : ℕ) (row : List ℤ) → T (small-test k row) → SmallRow row
-unfolding small-test
-small-row k row t = record { multiples = multiple; by-sine = column-small 4 (leb→le 5 6 tt); by-cosine = column-small 5 (leb→le 6 6 tt) }
-  where
-    column-small : (i : ℕ) → i < 6 → natAbs (column row i) ≤ getD bounds i 0
-    column-small i h = leb→le (natAbs (column row i)) (getD bounds i 0) (at (small-column row) 0 bounds t i h)
-
-    multiple : (i : ℕ) → i ≤ 3 → natAbs (column row i) ≤ 4
-    multiple zero h = column-small 0 (leb→le 1 6 tt)
-    multiple (suc zero) h = column-small 1 (leb→le 2 6 tt)
-    multiple (suc (suc zero)) h = column-small 2 (leb→le 3 6 tt)
-    multiple (suc (suc (suc zero))) h = column-small 3 (leb→le 4 6 tt)
-    multiple (suc (suc (suc (suc i)))) h = absurd (none i h)
-      where
-        none : (i : ℕ) → suc (suc (suc (suc i))) ≤ 3 → ⊥
-        none i h = omega arith
-
--- a table, by one test
 abbrev fits-test : List (List ℤ) → Bool
-fits-test terms = every small-test [] 0 terms && (leb (count (spread 4) terms) (2 ^ 62) && leb (count (spread 5) terms) (2 ^ 62))
+fits-test terms = every (bounded-test bounds) [] 0 terms && (leb (count (spread 4) terms) (2 ^ 62) && leb (count (spread 5) terms) (2 ^ 62))
 
 summable : (terms : List (List ℤ)) → T (fits-test terms) → Summable terms
-summable terms t = record {
-  each = λ i h. small-row i (getD terms i []) (at small-test [] terms (and-yes (every small-test [] 0 terms) _ t .0) i h);
-  by-sine = leb→le (count (spread 4) terms) (2 ^ 62) (sums .0);
-  by-cosine = leb→le (count (spread 5) terms) (2 ^ 62) (sums .1);
-}
-  where
-    sums : T (leb (count (spread 4) terms) (2 ^ 62)) × T (leb (count (spread 5) terms) (2 ^ 62))
-    sums = and-yes (leb (count (spread 4) terms) (2 ^ 62)) _ (and-yes (every small-test [] 0 terms) _ t .1)
+summable terms t =
+    let t₁ = and-yes (every (bounded-test bounds) [] 0 terms) _ t in
+    let t₂ = and-yes (leb (count (spread 4) terms) (2 ^ 62)) _ (t₁ .1) in
+    record {
+      each = bounded-rows bounds terms (t₁ .0);
+      by-sine = leb→le (count (spread 4) terms) (2 ^ 62) (t₂ .0);
+      by-cosine = leb→le (count (spread 5) terms) (2 ^ 62) (t₂ .1);
+    }
 
 pub longitude-distance-fits : Summable longitude-distance-terms
-unfolding longitude-distance-terms small-test count
+unfolding longitude-distance-terms bounded-test count
 longitude-distance-fits = summable longitude-distance-terms tt
 
 pub latitude-fits : Summable latitude-terms
-unfolding latitude-terms small-test count
+unfolding latitude-terms bounded-test count
 latitude-fits = summable latitude-terms tt
 
 -- the sums of a table are small

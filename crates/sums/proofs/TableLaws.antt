@@ -1,14 +1,17 @@
 -- Sums over tables: what one row adds, and how large they get.
+use mathlib.Core.Bool.{Bool}
 use mathlib.Core.List.{List, [], _∷_}
 use mathlib.Core.Path.{_∙_, _≡_, ap, refl, subst}
 use Prim.Native.Nat.{_<_, _≤_, suc, zero, zero-le, ℕ}
 use native.Mathlib.Nat.{le-add-left, le-add-right, le-of-suc-le-suc, le-refl, le-trans, not-suc-le-zero}
+use lib.Dec.{T, leb, leb→le}
 use lib.IntN.{_+ℤ_, natAbs, ℤ}
 use lib.ListN.{getD, length, take}
 use Rattle.arithmetic.proofs.Integers.{solveℤ}
 use Rattle.arithmetic.proofs.Sizes.{add-bound}
 use Rattle.arithmetic.proofs.Solver.{_:+_, k0, x0, x1, x2}
-use Rattle.sums.specs.Table.{count, total}
+use Rattle.arithmetic.proofs.Table.{at, every}
+use Rattle.sums.specs.Table.{Bounded, column, count, total}
 
 module _ {A : Type 0} where
   pub total-next : (f : A → ℤ) (rows : List A) (i : ℕ) (d : A) → i < length rows → total f (take (suc i) rows) ≡ total f (take i rows) +ℤ f (getD rows i d)
@@ -40,3 +43,18 @@ module _ {A : Type 0} where
 
   pub total-size : (f : A → ℤ) (g : A → ℕ) → ((row : A) → natAbs (f row) ≤ g row) → (rows : List A) → natAbs (total f rows) ≤ count g rows
   total-size f g h rows = subst (λ (r : List A). natAbs (total f r) ≤ count g rows) (take-all rows (length rows) (le-refl (length rows))) (total-most f g h rows (length rows))
+
+-- a row within its bounds, by a test of the columns 0, 1, ..
+abbrev pub within-bound : List ℤ → ℕ → ℕ → Bool
+within-bound row i bound = leb (natAbs (column row i)) bound
+
+unfoldable pub bounded-test : List ℕ → ℕ → List ℤ → Bool
+bounded-test bounds k row = every (within-bound row) 0 0 bounds
+
+pub bounded-row : (bounds : List ℕ) (k : ℕ) (row : List ℤ) → T (bounded-test bounds k row) → Bounded bounds row
+unfolding bounded-test
+bounded-row bounds k row t = record { each = λ i h. leb→le (natAbs (column row i)) (getD bounds i 0) (at (within-bound row) 0 bounds t i h) }
+
+-- and so for each row of a table
+pub bounded-rows : (bounds : List ℕ) (rows : List (List ℤ)) → T (every (bounded-test bounds) [] 0 rows) → (i : ℕ) → i < length rows → Bounded bounds (getD rows i [])
+bounded-rows bounds rows t i h = bounded-row bounds i (getD rows i []) (at (bounded-test bounds) [] rows t i h)

@@ -7,7 +7,7 @@ use Rattle.arithmetic.specs.Floor.{⌊_÷_⌋}
 use Rattle.numbers.specs.Angle.{full-turn, reduced}
 use Rattle.numbers.specs.Sine.{sine, cosine}
 use Rattle.sums.specs.Instant.{u, p2, value, minus}
-use Rattle.sums.specs.Table.{column, count, total}
+use Rattle.sums.specs.Table.{Bounded, column, count, total}
 use Rattle.sums.specs.MoonTerms as Of
 use Rattle.sums.specs.MoonTerms.{longitude-distance-terms, latitude-terms}
 use Rattle.sums.specs.declared.moon.Eccentricity.{Eccentricity}
@@ -62,10 +62,8 @@ pub record Slight (e : Eccentricity) : Type 0 where
   pub once : natAbs (e .e) ≤ 2 ^ 20
   pub twice : natAbs (e .e2) ≤ 2 ^ 20
 
-pub record SmallRow (row : List ℤ) : Type 0 where
-  pub multiples : (i : ℕ) → i ≤ 3 → natAbs (column row i) ≤ 4
-  pub by-sine : natAbs (column row 4) ≤ 2 ^ 25
-  pub by-cosine : natAbs (column row 5) ≤ 2 ^ 25
+abbrev pub SmallRow : List ℤ → Type 0
+SmallRow row = Bounded (4 ∷ 4 ∷ 4 ∷ 4 ∷ 2 ^ 25 ∷ 2 ^ 25 ∷ []) row
 
 abbrev pub spread : ℕ → List ℤ → ℕ
 spread i row = (105 * natAbs (column row i) + 1) * 1_000_000_001

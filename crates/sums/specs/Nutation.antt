@@ -1,11 +1,12 @@
 -- The nutation and the obliquity (01, "Nutation"), at TT n.
-use Prim.Native.Nat.{ℕ, _*_, _/_}
+use Prim.Native.Nat.{ℕ, _+_, _*_, _/_, _^_, _≤_, _<_}
 use mathlib.Core.List.{List, [], _∷_}
-use lib.IntN.{ℤ, pos, _+ℤ_, _*ℤ_}
+use lib.IntN.{ℤ, pos, natAbs, _+ℤ_, _*ℤ_}
+use lib.ListN.{getD, length}
 use Rattle.arithmetic.specs.Floor.{⌊_÷_⌋}
 use Rattle.numbers.specs.Sine.{sine, cosine}
 use Rattle.sums.specs.Instant.{u, p2, p3, minus}
-use Rattle.sums.specs.Table.{column, total}
+use Rattle.sums.specs.Table.{Bounded, column, count, total}
 use Rattle.sums.specs.Moon.{argument}
 use Rattle.sums.specs.NutationTerms.{X0, X1, X2, X3, X4, nutation-terms}
 
@@ -14,28 +15,43 @@ abbrev pub arguments : ℤ → List ℤ
 arguments n = argument X0 n ∷ argument X1 n ∷ argument X2 n ∷ argument X3 n ∷ argument X4 n ∷ []
 
 -- all five columns of the table count
-abbrev pub row-angle : ℤ → List ℤ → ℤ
-row-angle n row = column row 0 *ℤ argument X0 n +ℤ column row 1 *ℤ argument X1 n +ℤ column row 2 *ℤ argument X2 n
-    +ℤ column row 3 *ℤ argument X3 n +ℤ column row 4 *ℤ argument X4 n
+abbrev pub row-angle : List ℤ → List ℤ → ℤ
+row-angle arguments row = column row 0 *ℤ column arguments 0 +ℤ column row 1 *ℤ column arguments 1 +ℤ column row 2 *ℤ column arguments 2
+    +ℤ column row 3 *ℤ column arguments 3 +ℤ column row 4 *ℤ column arguments 4
 
 -- weight 10 a + ⌊10 b u / 10⁶⌋, likewise c, d; the table has 10 b and 10 d
 abbrev pub weight : ℤ → ℤ → ℤ → ℤ
-weight n a b = pos 10 *ℤ a +ℤ ⌊ b *ℤ u n ÷ 1_000_000 ⌋
+weight u a b = pos 10 *ℤ a +ℤ ⌊ b *ℤ u ÷ 1_000_000 ⌋
 
-abbrev pub sine-term : ℤ → List ℤ → ℤ
-sine-term n row = weight n (column row 5) (column row 6) *ℤ sine (row-angle n row)
+abbrev pub sine-term : List ℤ → ℤ → List ℤ → ℤ
+sine-term arguments u row = weight u (column row 5) (column row 6) *ℤ sine (row-angle arguments row)
 
-abbrev pub cosine-term : ℤ → List ℤ → ℤ
-cosine-term n row = weight n (column row 7) (column row 8) *ℤ cosine (row-angle n row)
+abbrev pub cosine-term : List ℤ → ℤ → List ℤ → ℤ
+cosine-term arguments u row = weight u (column row 7) (column row 8) *ℤ cosine (row-angle arguments row)
 
 -- Δψ by sine, Δε by cosine: ⌊25 sum / (9 10¹⁰)⌋
 unfoldable pub Δψ : ℤ → ℤ
-Δψ n = ⌊ pos 25 *ℤ total (sine-term n) nutation-terms ÷ 90_000_000_000 ⌋
+Δψ n = ⌊ pos 25 *ℤ total (sine-term (arguments n) (u n)) nutation-terms ÷ 90_000_000_000 ⌋
 
 unfoldable pub Δε : ℤ → ℤ
-Δε n = ⌊ pos 25 *ℤ total (cosine-term n) nutation-terms ÷ 90_000_000_000 ⌋
+Δε n = ⌊ pos 25 *ℤ total (cosine-term (arguments n) (u n)) nutation-terms ÷ 90_000_000_000 ⌋
 
 -- ⌊84,381,448 · 250 / 9⌋ + ⌊-468,093 u / 360,000⌋ + ⌊-155 p2 / (36 10⁶)⌋ + ⌊199,925 p3 / (36 10⁸)⌋ + Δε
-unfoldable pub obliquity : ℤ → ℤ
-obliquity n = pos (84_381_448 * 250 / 9) +ℤ ⌊ minus 468_093 *ℤ u n ÷ 360_000 ⌋ +ℤ ⌊ minus 155 *ℤ p2 n ÷ 36_000_000 ⌋
-    +ℤ ⌊ pos 199_925 *ℤ p3 n ÷ 3_600_000_000 ⌋ +ℤ Δε n
+unfoldable pub mean-obliquity : ℤ → ℤ
+mean-obliquity n = pos (84_381_448 * 250 / 9) +ℤ ⌊ minus 468_093 *ℤ u n ÷ 360_000 ⌋ +ℤ ⌊ minus 155 *ℤ p2 n ÷ 36_000_000 ⌋
+    +ℤ ⌊ pos 199_925 *ℤ p3 n ÷ 3_600_000_000 ⌋
+
+abbrev pub obliquity : ℤ → ℤ
+obliquity n = mean-obliquity n +ℤ Δε n
+
+-- what keeps the sums within 64 bits
+abbrev pub SmallRow : List ℤ → Type 0
+SmallRow row = Bounded (3 ∷ 3 ∷ 3 ∷ 3 ∷ 3 ∷ 2 ^ 18 ∷ 2 ^ 18 ∷ 2 ^ 18 ∷ 2 ^ 18 ∷ []) row
+
+abbrev pub spread : ℕ → ℕ → List ℤ → ℕ
+spread i j row = (10 * natAbs (column row i) + 2 * natAbs (column row j) + 1) * 1_000_000_001
+
+pub record Summable (terms : List (List ℤ)) : Type 0 where
+  pub each : (i : ℕ) → i < length terms → SmallRow (getD terms i [])
+  pub by-sine : count (spread 5 6) terms ≤ 2 ^ 57
+  pub by-cosine : count (spread 7 8) terms ≤ 2 ^ 57

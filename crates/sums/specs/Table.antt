@@ -1,8 +1,8 @@
 -- Tables: a list of rows, each a list of numbers; their columns, and sums over the rows.
 use mathlib.Core.List.{List, [], _∷_}
-use Prim.Native.Nat.{ℕ, _+_}
-use lib.IntN.{ℤ, pos, _+ℤ_}
-use lib.ListN.{getD}
+use Prim.Native.Nat.{ℕ, _+_, _≤_, _<_}
+use lib.IntN.{ℤ, pos, natAbs, _+ℤ_}
+use lib.ListN.{getD, length}
 
 abbrev pub column : List ℤ → ℕ → ℤ
 column row i = getD row i (pos 0)
@@ -15,3 +15,7 @@ total f (row ∷ rows) = f row +ℤ total f rows
 unfoldable pub count : {A : Type 0} → (A → ℕ) → List A → ℕ
 count f [] = 0
 count f (row ∷ rows) = f row + count f rows
+
+-- a row whose columns are within given bounds
+pub record Bounded (bounds : List ℕ) (row : List ℤ) : Type 0 where
+  pub each : (i : ℕ) → i < length bounds → natAbs (column row i) ≤ getD bounds i 0

@@ -2,6 +2,9 @@
 pub mod instant;
 pub mod moon;
 pub mod moon_terms;
+pub mod nutation;
 pub mod nutation_terms;
+pub mod sidereal;
 pub mod sun;
 pub mod sun_terms;
+pub mod terms;

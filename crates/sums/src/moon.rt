@@ -5,22 +5,20 @@ use super::instant::powers_at;
 use super::instant::value_at;
 use super::moon_terms::latitude_terms;
 use super::moon_terms::longitude_distance_terms;
+use super::terms::TermSums;
+use super::terms::cosine_term;
 use numbers::angle::Angle;
-use numbers::sine::cosine_in;
 use numbers::sine::sine_in;
 use numbers::sine_table::table;
 use numbers::whole::absolute;
 use numbers::whole::floor_div;
 ghost use mathlib.Core.Path.{_≡_};
 ghost use Prim.Native.Nat.{_≤_, _^_};
-ghost use lib.IntN.{pos, natAbs, _*ℤ_, _+ℤ_};
-ghost use lib.ListN.{getD};
-ghost use Rattle.numbers.specs.Sine.{cosine};
+ghost use lib.IntN.{natAbs};
 ghost use Rattle.numbers.specs.SineTable.{sines};
-ghost use Rattle.sums.specs.Instant.{furthest, Reached, value};
+ghost use Rattle.sums.specs.Instant.{furthest, Reached};
 ghost use Rattle.sums.specs.Accuracy.{MoonNear};
 ghost use Rattle.sums.specs.Table.{total};
-ghost use Rattle.sums.specs.MoonTerms.{A1, A2, A3};
 ghost use Rattle.sums.specs.Moon.{arguments, eccentricity, weight, row-angle, sine-term, cosine-term, added, longitude-added, latitude-added, longitude, latitude, metres, Turns, Slight, SmallRow, Summable};
 
 // L'.
@@ -124,12 +122,6 @@ pub struct MoonPlace {
     pub metres: i64,
 }
 
-// What is summed by sine and by cosine.
-pub struct TermSums {
-    pub sine: i64,
-    pub cosine: i64,
-}
-
 // L', D, M, M', F.
 pub fn arguments(t: Powers) -> [i64; 5]
     requires { ⌜ Reached t ⌝ }
@@ -175,18 +167,6 @@ fn row_angle(arguments: [i64; 5], row: [i32; 6]) -> i64
         + row[1] as i64 * arguments[2]
         + row[2] as i64 * arguments[3]
         + row[3] as i64 * arguments[4]
-}
-
-// Many rows go by sine alone.
-fn cosine_term(table: &[u32; 361], weight: i64, angle: i64) -> i64
-    requires { ⌜ (now table ≡ sines) × (natAbs weight ≤ 2 ^ 32) ⌝ }
-    ensures { λ r. ⌜ r ≡ weight *ℤ cosine angle ⌝ }
-{
-    if weight == 0 {
-        0
-    } else {
-        weight * cosine_in(table, angle)
-    }
 }
 
 // One row by sine and by cosine.

@@ -35,13 +35,13 @@ module _ (s : tie.Start) where
   slight = s .pre .1 .1 .0
 
   abbrev m-mirror : Mirror
-  m-mirror = narrow (column row 1) (small .multiples 1 (leb→le 1 3 tt)) tt
+  m-mirror = narrow (column row 1) (small .each 1 (leb→le 2 6 tt)) tt
 
   abbrev sine-column : Mirror
-  sine-column = narrow (column row 4) (small .by-sine) tt
+  sine-column = narrow (column row 4) (small .each 4 (leb→le 5 6 tt)) tt
 
   abbrev cosine-column : Mirror
-  cosine-column = narrow (column row 5) (small .by-cosine) tt
+  cosine-column = narrow (column row 5) (small .each 5 (leb→le 6 6 tt)) tt
 
 angle-is : (c : tie.After-row-angle) → toZ w64 (ofZ w64 (c .row-angle .result)) ≡ row-angle (args (c .before)) (row (c .before))
 angle-is c = passed (c .row-angle .ok) (c .row-angle .ensures)
@@ -57,7 +57,7 @@ abbrev sine-weight : tie.After-weight → Mirror
 sine-weight c =
     let s = c .before .before .before .before .before in
     gave (c .weight .ok) (weight-is (e s) (c .weight .ensures) (multiple-is (c .before .before)) (sine-column s .same))
-    (weight-small (e s) (slight s) (natAbs (column (row s) 1)) (column (row s) 4) (small s .by-sine))
+    (weight-small (e s) (slight s) (natAbs (column (row s) 1)) (column (row s) 4) (small s .each 4 (leb→le 5 6 tt)))
 
 abbrev sine-product : tie.After-sine-in → Mirror
 sine-product c =
@@ -68,7 +68,7 @@ abbrev cosine-weight : tie.After-weight2 → Mirror
 cosine-weight c =
     let s = c .before .before .before .before .before .before .before .before in
     gave (c .weight2 .ok) (weight-is (e s) (c .weight2 .ensures) (multiple-is (c .before .before .before .before .before)) (cosine-column s .same))
-    (weight-small (e s) (slight s) (natAbs (column (row s) 1)) (column (row s) 5) (small s .by-cosine))
+    (weight-small (e s) (slight s) (natAbs (column (row s) 1)) (column (row s) 5) (small s .each 5 (leb→le 6 6 tt)))
 
 row-angle-requires : tie.Need-row-angle-requires
 row-angle-requires c κs = search needs
@@ -77,7 +77,7 @@ array-copy-out-absolute : tie.Need-array-copy-out-absolute
 array-copy-out-absolute c = search needs
 
 cast-absolute : tie.Need-cast-absolute
-cast-absolute c = widened (column (row (c .before .before)) 1) (small (c .before .before) .multiples 1 (leb→le 1 3 tt)) tt
+cast-absolute c = widened (column (row (c .before .before)) 1) (small (c .before .before) .each 1 (leb→le 2 6 tt)) tt
 
 absolute-requires : tie.Need-absolute-requires
 absolute-requires c κs = search needs
@@ -86,7 +86,7 @@ array-copy-out-weight : tie.Need-array-copy-out-weight
 array-copy-out-weight c = search needs
 
 cast-weight : tie.Need-cast-weight
-cast-weight c = widened (column (row (c .before .before .before .before)) 4) (small (c .before .before .before .before) .by-sine) tt
+cast-weight c = widened (column (row (c .before .before .before .before)) 4) (small (c .before .before .before .before) .each 4 (leb→le 5 6 tt)) tt
 
 weight-requires : tie.Need-weight-requires
 weight-requires c κs = (slight (c .before .before .before .before), asked (sine-column (c .before .before .before .before)) tt)
@@ -101,7 +101,7 @@ array-copy-out-weight-2 : tie.Need-array-copy-out-weight-2
 array-copy-out-weight-2 c = search needs
 
 cast-weight-2 : tie.Need-cast-weight-2
-cast-weight-2 c = widened (column (row (c .before .before .before .before .before .before .before)) 5) (small (c .before .before .before .before .before .before .before) .by-cosine) tt
+cast-weight-2 c = widened (column (row (c .before .before .before .before .before .before .before)) 5) (small (c .before .before .before .before .before .before .before) .each 5 (leb→le 6 6 tt)) tt
 
 weight-requires-2 : tie.Need-weight-requires-2
 weight-requires-2 c κs = (slight (c .before .before .before .before .before .before .before), asked (cosine-column (c .before .before .before .before .before .before .before)) tt)

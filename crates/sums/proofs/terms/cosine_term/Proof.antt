@@ -1,4 +1,4 @@
--- `sums::moon::cosine_term` meets its contract.
+-- `sums::terms::cosine_term` meets its contract.
 use mathlib.Core.List.{[], _∷_}
 use mathlib.Core.Path.{_∙_, ap, sym}
 use lib.IntN.{_*ℤ_, ℤ}
@@ -8,8 +8,8 @@ use Rattle.arithmetic.proofs.Solver.{_:*_, k0, x0}
 use Rattle.numbers.specs.Sine.{cosine}
 use Rattle.numbers.proofs.Machine.{Mirror, _⊗_, any, arg, fits, gave, is-zero, kept}
 use Rattle.numbers.proofs.SineSize.{cosine-most}
-use Rattle.sums.proofs.moon.cosine_term.Statement.{statement}
-use Rattle.sums.proofs.moon.cosine_term.Tie as tie
+use Rattle.sums.proofs.terms.cosine_term.Statement.{statement}
+use Rattle.sums.proofs.terms.cosine_term.Tie as tie
 
 abbrev product : tie.After-cosine-in → Mirror
 product c =

@@ -1,0 +1,73 @@
+-- Sizes of the terms of the nutation.
+use mathlib.Core.List.{List, [], _∷_}
+use Prim.Native.Nat.{_*_, _+_, _/_, _^_, _≤_, suc, zero, zero-le, ℕ}
+use native.Mathlib.Nat.{le-refl, le-trans}
+use native.Mathlib.Omega.{arith}
+use lib.Dec.{leb→le}
+use lib.IntN.{_*ℤ_, natAbs, pos, ℤ}
+use Rattle.arithmetic.specs.Floor.{⌊_÷_⌋}
+use Rattle.arithmetic.proofs.FloorLaws.{floor-most}
+use Rattle.arithmetic.proofs.Sizes.{add-bound, mul-bound}
+use Rattle.numbers.specs.Angle.{full-turn}
+use Rattle.numbers.specs.Sine.{cosine, sine}
+use Rattle.numbers.proofs.SineSize.{cosine-most, sine-most}
+use Rattle.sums.specs.Instant.{u}
+use Rattle.sums.specs.Moon.{Turns}
+use Rattle.sums.specs.Nutation.{Summable, arguments, cosine-term, row-angle, sine-term, spread, weight}
+use Rattle.sums.specs.NutationTerms.{X0, X1, X2, X3, X4, nutation-terms}
+use Rattle.sums.specs.Table.{column, count, total}
+use Rattle.sums.proofs.InstantLaws.{value-small}
+use Rattle.sums.proofs.TableLaws.{bounded-rows, bounded-test, total-size}
+
+-- a weight is at most 10 a and 2 b, and one
+pub weight-most : (u : ℤ) → natAbs u ≤ 2 ^ 20 → (a b : ℤ) → natAbs (weight u a b) ≤ 10 * natAbs a + 2 * natAbs b + 1
+weight-most u h a b =
+    le-trans
+    (add-bound (pos 10 *ℤ a) ⌊ b *ℤ u ÷ 1_000_000 ⌋ (mul-bound (pos 10) a (le-refl 10) (le-refl (natAbs a)))
+    (floor-most (b *ℤ u) 1_000_000 (natAbs b * 2 ^ 20) (mul-bound b u (le-refl (natAbs b)) h)))
+    (below (natAbs a) (natAbs b))
+  where
+    below : (x y : ℕ) → 10 * x + (y * 2 ^ 20 / 1_000_000 + 1) ≤ 10 * x + 2 * y + 1
+    below x y = omega arith
+
+module _ (args : List ℤ) (u : ℤ) (h : natAbs u ≤ 2 ^ 20) where
+  pub sine-term-most : (row : List ℤ) → natAbs (sine-term args u row) ≤ spread 5 6 row
+  sine-term-most row = mul-bound (weight u (column row 5) (column row 6)) (sine (row-angle args row)) (weight-most u h (column row 5) (column row 6)) (sine-most (row-angle args row))
+
+  pub cosine-term-most : (row : List ℤ) → natAbs (cosine-term args u row) ≤ spread 7 8 row
+  cosine-term-most row = mul-bound (weight u (column row 7) (column row 8)) (cosine (row-angle args row)) (weight-most u h (column row 7) (column row 8)) (cosine-most (row-angle args row))
+
+  -- the sums of a table are small
+  module _ (terms : List (List ℤ)) (fit : Summable terms) where
+    pub by-sine-small : natAbs (total (sine-term args u) terms) ≤ 2 ^ 57
+    by-sine-small = le-trans (total-size (sine-term args u) (spread 5 6) sine-term-most terms) (fit .by-sine)
+
+    pub by-cosine-small : natAbs (total (cosine-term args u) terms) ≤ 2 ^ 57
+    by-cosine-small = le-trans (total-size (cosine-term args u) (spread 7 8) cosine-term-most terms) (fit .by-cosine)
+
+pub weight-small : (u : ℤ) → natAbs u ≤ 2 ^ 20 → (a b : ℤ) → natAbs a ≤ 2 ^ 18 → natAbs b ≤ 2 ^ 18 → natAbs (weight u a b) ≤ 2 ^ 32
+weight-small u h a b k l = omega (arith, weight-most u h a b, k, l)
+
+-- the arguments are reduced
+pub arguments-turn : (n : ℤ) → Turns (arguments n)
+arguments-turn n = record { within = go }
+  where
+    go : (i : ℕ) → natAbs (column (arguments n) i) ≤ full-turn
+    go zero = value-small X0 n
+    go (suc zero) = value-small X1 n
+    go (suc (suc zero)) = value-small X2 n
+    go (suc (suc (suc zero))) = value-small X3 n
+    go (suc (suc (suc (suc zero)))) = value-small X4 n
+    go (suc (suc (suc (suc (suc i))))) = zero-le
+
+-- the table, by one test
+abbrev bounds : List ℕ
+bounds = 3 ∷ 3 ∷ 3 ∷ 3 ∷ 3 ∷ 2 ^ 18 ∷ 2 ^ 18 ∷ 2 ^ 18 ∷ 2 ^ 18 ∷ []
+
+pub nutation-fits : Summable nutation-terms
+unfolding nutation-terms bounded-test count
+nutation-fits = record {
+  each = bounded-rows bounds nutation-terms tt;
+  by-sine = leb→le (count (spread 5 6) nutation-terms) (2 ^ 57) tt;
+  by-cosine = leb→le (count (spread 7 8) nutation-terms) (2 ^ 57) tt;
+}

@@ -1,0 +1,53 @@
+-- `sums::sidereal::apparent_at` meets its contract.
+use mathlib.Core.Path.{_∙_, ap, subst⁻¹}
+use Prim.Native.Nat.{_≤_, ℕ}
+use lib.IntN.{_*ℤ_, _+ℤ_, pos}
+use borrow.Author.Needs.{needs}
+use Rattle.arithmetic.specs.Floor.{⌊_÷_⌋}
+use Rattle.numbers.specs.Angle.{full-turn}
+use Rattle.numbers.specs.Sine.{cosine}
+use Rattle.numbers.proofs.Machine.{Mirror, _⊕_, _⊗_, any, arg, fits, floor-gave, from-nat, gave, kept, nat-fits}
+use Rattle.numbers.proofs.SineSize.{cosine-most}
+use Rattle.sums.specs.Sidereal.{apparent}
+use Rattle.sums.proofs.InstantLaws.{mean-most}
+use Rattle.sums.proofs.sidereal.apparent_at.Statement.{statement}
+use Rattle.sums.proofs.sidereal.apparent_at.Tie as tie
+
+mean-small : (c : tie.After-mean-at) → c .mean-at .result ≤ full-turn
+mean-small c = subst⁻¹ (λ (m : ℕ). m ≤ full-turn) (c .mean-at .ensures) (mean-most (c .before .args .t .n))
+
+abbrev product : tie.After-cosine-in → Mirror
+product c =
+    let s = c .before .before in
+    arg (s .fits .nutation) (s .pre .1 .1)
+    ⊗ gave (c .cosine-in .ok) (c .cosine-in .ensures ∙ ap cosine (any (s .fits .obliquity) .same)) (cosine-most (s .args .obliquity))
+
+abbrev sum : tie.After-floor-div → Mirror
+sum c = from-nat (mean-small (c .before .before)) tt ⊕ floor-gave (kept (product (c .before)) tt) 1_000_000_000 (c .floor-div .ok) (c .floor-div .ensures)
+
+mean-at-requires : tie.Need-mean-at-requires
+mean-at-requires c κs = search needs
+
+cast-result : tie.Need-cast-result
+cast-result c = nat-fits (mean-small c) tt
+
+cosine-in-requires : tie.Need-cosine-in-requires
+cosine-in-requires c κs = search needs
+
+mul-floor-div : tie.Need-mul-floor-div
+mul-floor-div c = fits (product c) tt
+
+floor-div-requires : tie.Need-floor-div-requires
+floor-div-requires c κs = search needs
+
+add-result : tie.Need-add-result
+add-result c = fits (sum c) tt
+
+returns : tie.Need-returns
+unfolding apparent
+returns c =
+    kept (sum c) tt .same
+    ∙ ap (λ (m : ℕ). pos m +ℤ ⌊ c .before .before .before .args .nutation *ℤ cosine (c .before .before .before .args .obliquity) ÷ 1_000_000_000 ⌋) (c .before .before .mean-at .ensures)
+
+pub apparent-at-spec : {M : Type 1} → statement M
+apparent-at-spec = tie.close (tie.spec mean-at-requires cast-result cosine-in-requires mul-floor-div floor-div-requires add-result returns)
