@@ -14,3 +14,5 @@ pub mod MoonNear
 pub mod SunAngles
 pub mod SunNear
 pub mod Accurate
+pub mod TablesPinned
+pub mod CasesHold

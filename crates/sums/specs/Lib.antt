@@ -9,3 +9,5 @@ pub mod Nutation
 pub mod Sidereal
 pub mod ExactSums
 pub mod Accuracy
+pub mod Digest
+pub mod Cases
