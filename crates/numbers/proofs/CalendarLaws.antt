@@ -1,15 +1,19 @@
 -- The Gregorian calendar in closed form, as the code computes it.
 use mathlib.Core.Bool.{Bool, _&&_, _||_, cond, false, not, true}
-use mathlib.Core.Path.{_∙_, _≡_, ap, refl, subst, sym}
+use mathlib.Core.Path.{_∙_, _≡_, ap, refl, subst, subst⁻¹, sym}
 use Prim.Native.Nat.{_%_, _*_, _+_, _-_, _/_, _<_, _≤_, suc, zero, ℕ}
 use native.Mathlib.Decide.{ℕ-discrete}
+use native.Mathlib.Nat.{le-refl, suc-add, zero-add}
 use native.Mathlib.Omega.{arith}
-use lib.Dec.{T, eqb, eqb→eq, leb, le→leb, lit≤, lt→ltb}
+use lib.Dec.{T, eqb, eqb→eq, leb, leb→le, le→leb, lit≤, lt→ltb}
 use lib.IntN.{natAbs, negsuc, pos, ℤ}
-use lib.Signed.{_<ℤ_, _≤ℤ_, leZ-yes, ltZ-yes}
+use lib.Signed.{_<ℤ_, _≤ℤ_, leZ, leZ-yes, ltZ-yes}
 use mir.Facts.{and-yes}
 use borrow.Author.Tests.{eqb-false, eqb-true, ne-eqb}
-use Rattle.numbers.specs.Calendar.{day-number, days-to-month, days-to-year, leap, month-length, year-length}
+use Rattle.arithmetic.proofs.Difference.{#_, _⊟ℤ_, by-le, ⟨_⟩}
+use Rattle.numbers.specs.Calendar.{DayAnswer, day-count, day-number, days-from-2000, days-to-month, days-to-year, leap, month-length, year-length}
+use Rattle.numbers.specs.Cases.{day}
+use Rattle.numbers.proofs.Machine.{at-least, at-most}
 
 -- a test of every number below n, and what it tells of each
 all : ℕ → (ℕ → Bool) → Bool
@@ -156,3 +160,82 @@ day-high {z = negsuc k} h l = absurd (h .le)
 pub day-low : {z : ℤ} {j n : ℕ} → pos j ≤ℤ z → natAbs z ≤ n → z ≤ℤ pos n
 day-low {z = pos k} {j} {n} h l = leZ-yes (le→leb k n l)
 day-low {z = negsuc k} h l = absurd (h .le)
+
+-- ---- the days that are accepted lie from 1900-01-01 to 2100-12-31
+fits-year : Bool → ℕ → Bool
+fits-year l m = leb (to-month l m + length-of l m) (cond l 366 365)
+
+all-fit : (l : Bool) → T (all 13 (fits-year l))
+unfolding all fits-year length-of to-month
+all-fit true = tt
+all-fit false = tt
+
+month-in-year : (y m : ℕ) → m ≤ 12 → days-to-month y m + month-length y m ≤ year-length y
+unfolding fits-year month-length length-of year-length
+month-in-year y m h =
+    subst (λ (n : ℕ). n + length-of (leap y) m ≤ cond (leap y) 366 365) (sym (same-to-month y m))
+    (leb→le (to-month (leap y) m + length-of (leap y) m) (cond (leap y) 366 365) (all-at 13 (fits-year (leap y)) (all-fit (leap y)) m (omega arith)))
+
+years-grow : (k y : ℕ) → days-to-year y ≤ days-to-year (k + y)
+unfolding days-to-year
+years-grow zero y = subst (λ (z : ℕ). days-to-year y ≤ days-to-year z) (sym (zero-add y)) (le-refl (days-to-year y))
+years-grow (suc k) y = subst (λ (z : ℕ). days-to-year y ≤ days-to-year z) (sym (suc-add k y)) (omega (arith, years-grow k y))
+
+years-order : {y z : ℕ} → y ≤ z → days-to-year y ≤ days-to-year z
+years-order {y} {z} h = subst (λ (x : ℕ). days-to-year y ≤ days-to-year x) (back y z h) (years-grow (z - y) y)
+  where
+    back : (y z : ℕ) → y ≤ z → z - y + y ≡ z
+    back y z h = omega arith
+
+next-year : (y : ℕ) → days-to-year (suc y) ≡ days-to-year y + year-length y
+unfolding days-to-year
+next-year y = refl
+
+to-1900 : days-to-year 1900 ≡ 693_961
+unfolding days-to-year year-length leap
+to-1900 = refl
+
+to-2101 : days-to-year 2101 ≡ 767_375
+unfolding days-to-year year-length leap
+to-2101 = refl
+
+module _ (y m d : ℕ) (y₁ : 1900 ≤ y) (y₂ : y ≤ 2100) (m₂ : m ≤ 12) (d₁ : 1 ≤ d) (d₂ : d ≤ month-length y m) where
+  day-from : 693_962 ≤ day-number y m d
+  unfolding day-number
+  day-from = omega (arith, years-order y₁, to-1900, d₁)
+
+  day-to : day-number y m d ≤ 767_375
+  unfolding day-number
+  day-to = omega (arith, years-order {y = suc y} {z = 2101} (omega arith), next-year y, to-2101, month-in-year y m m₂, d₂)
+
+  in-range : (negsuc 36_523 ≤ℤ days-from-2000 y m d) × (days-from-2000 y m d ≤ℤ pos 36_889)
+  unfolding days-from-2000
+  in-range = (
+    by-le ⟨ negsuc 36_523 ⟩ (# day-number y m d ⊟ℤ # day-number 2000 1 1) (omega (arith, epoch, day-from)),
+    by-le (# day-number y m d ⊟ℤ # day-number 2000 1 1) (# 36_889) (omega (arith, epoch, day-to)),
+  )
+
+-- an answer without a refusal comes from tests that all pass
+answered : (p q r : Bool) (x y z : DayAnswer) (a : DayAnswer) → (x .refusal ≡ 0 → ⊥) → (y .refusal ≡ 0 → ⊥) → (z .refusal ≡ 0 → ⊥)
+    → cond p (cond q (cond r a z) y) x .refusal ≡ 0 → T p × (T q × (T r × (cond p (cond q (cond r a z) y) x ≡ a)))
+answered true true true x y z a f g k h = (tt, (tt, (tt, refl)))
+answered true true false x y z a f g k h = absurd (k h)
+answered true false r x y z a f g k h = absurd (g h)
+answered false q r x y z a f g k h = absurd (f h)
+
+pub accepted-days : (y m d : ℤ) → day-count y m d .refusal ≡ 0
+    → (negsuc 36_523 ≤ℤ day-count y m d .days) × (day-count y m d .days ≤ℤ pos 36_889)
+unfolding day-count
+accepted-days y m d h =
+    let year = leZ (pos 1900) y && leZ y (pos 2100) in
+    let month = leZ (pos 1) m && leZ m (pos 12) in
+    let day = leZ (pos 1) d && leZ d (pos (month-length (natAbs y) (natAbs m))) in
+    let refused : ℕ → DayAnswer = λ n. record { refusal = n; days = pos 0 } in
+    let a : DayAnswer = record { refusal = 0; days = days-from-2000 (natAbs y) (natAbs m) (natAbs d) } in
+    let t = answered year month day (refused 1) (refused 2) (refused 3) a (λ e. omega (arith, e)) (λ e. omega (arith, e)) (λ e. omega (arith, e)) h in
+    let t-year = and-yes (leZ (pos 1900) y) (leZ y (pos 2100)) (t .0) in
+    let t-month = and-yes (leZ (pos 1) m) (leZ m (pos 12)) (t .1 .0) in
+    let t-day = and-yes (leZ (pos 1) d) (leZ d (pos (month-length (natAbs y) (natAbs m)))) (t .1 .1 .0) in
+    subst⁻¹ (λ (x : DayAnswer). (negsuc 36_523 ≤ℤ x .days) × (x .days ≤ℤ pos 36_889)) (t .1 .1 .1)
+    (in-range (natAbs y) (natAbs m) (natAbs d) (at-least {z = y} (leZ-yes (t-year .0))) (at-most {j = 1900} {z = y} (leZ-yes (t-year .0)) (leZ-yes (t-year .1)))
+    (at-most {j = 1} {z = m} (leZ-yes (t-month .0)) (leZ-yes (t-month .1))) (at-least {z = d} (leZ-yes (t-day .0))) (at-most {j = 1} {z = d} (leZ-yes (t-day .0)) (leZ-yes (t-day .1))))

@@ -16,3 +16,4 @@ pub mod SunNear
 pub mod Accurate
 pub mod TablesPinned
 pub mod CasesHold
+pub mod AcceptedInstants

@@ -1,7 +1,8 @@
 -- Time (01, "Time"): instants counted from noon of 2000-01-01 in a unit of time, their powers, and the polynomials in them.
 use mathlib.Core.Path.{_≡_}
 use Prim.Native.Nat.{ℕ, _*_, _/_, _^_, _≤_, _<_}
-use lib.IntN.{ℤ, pos, negℤ, natAbs, _+ℤ_, _*ℤ_, _-ℤ_}
+use lib.IntN.{ℤ, pos, negsuc, negℤ, natAbs, _+ℤ_, _*ℤ_, _-ℤ_}
+use lib.Signed.{_≤ℤ_, _<ℤ_}
 use Rattle.arithmetic.specs.Floor.{⌊_÷_⌋}
 use Rattle.numbers.specs.Angle.{reduced}
 use Rattle.sums.specs.declared.instant.Polynomial.{Polynomial}
@@ -28,6 +29,15 @@ universal-time d elapsed ut1 = pos day *ℤ d -ℤ pos (day / 2) +ℤ elapsed +�
 -- TT = UT + delta-T
 abbrev pub terrestrial-time : ℤ → ℤ → ℤ
 terrestrial-time ut delta = ut +ℤ delta
+
+-- an accepted instant: a day from 1900-01-01 to 2100-12-31 (1 to 3), a time of the day (4), UT1 minus UTC of at most 0.9 s (5) and delta-T of at most
+-- 8,000 s (6) either way; with the offset of a batch it is not after the last instant of 2100 (13)
+pub record Accepted (d elapsed ut1 delta : ℤ) : Type 0 where
+  pub not-early : negsuc 36_523 ≤ℤ d
+  pub from-midnight : pos 0 ≤ℤ elapsed
+  pub not-late : (pos day *ℤ d +ℤ elapsed) <ℤ pos (36_890 * day)
+  pub ut1-small : 10 * natAbs ut1 ≤ 9 * second
+  pub delta-small : natAbs delta ≤ 8_000 * second
 
 -- no accepted instant lies further away than 1.011 centuries
 abbrev pub furthest : ℕ
