@@ -32,10 +32,11 @@ module _ {d elapsed ut1 delta : ℤ} (a : Accepted d elapsed ut1 delta) where
 
   universal-small : natAbs (universal-time d elapsed ut1) ≤ 36_890 * day + day / 2 + second
   universal-small =
+      let ut1-most : natAbs ut1 ≤ second = omega (arith, a .ut1-small) in
       subst (λ (z : ℤ). natAbs z ≤ 36_890 * day + day / 2 + second)
       (solveℤ ((x0 :+ x1) :- x2 :+ x3) (x0 :- x2 :+ x1 :+ x3) ((pos day *ℤ d) ∷ elapsed ∷ pos (day / 2) ∷ ut1 ∷ []) tt)
       (add-bound ((pos day *ℤ d +ℤ elapsed) -ℤ pos (day / 2)) ut1 (sub-bound (pos day *ℤ d +ℤ elapsed) (pos (day / 2)) clock-small (le-refl (day / 2)))
-      (omega (arith, a .ut1-small)))
+      ut1-most)
 
   pub universal-near : natAbs (universal-time d elapsed ut1) ≤ furthest
   universal-near = le-trans universal-small (leb→le (36_890 * day + day / 2 + second) furthest tt)
