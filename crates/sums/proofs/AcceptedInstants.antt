@@ -1,7 +1,7 @@
 -- Every accepted instant is within reach, so demand 3 holds there (01: "at every accepted instant").
 use mathlib.Core.List.{[], _∷_}
 use mathlib.Core.Path.{subst}
-use Prim.Native.Nat.{_*_, _+_, _/_, _≤_, ℕ}
+use Prim.Native.Nat.{_*_, _+_, _/_, _^_, _≤_, ℕ}
 use native.Mathlib.Nat.{le-refl, le-trans}
 use native.Mathlib.Omega.{arith}
 use lib.Dec.{leb→le}
@@ -30,9 +30,25 @@ module _ {d elapsed ut1 delta : ℤ} (a : Accepted d elapsed ut1 delta) where
       (by-le (⊟ (# (36_890 * day))) (# day ⊠ ⟨ d ⟩ ⊞ ⟨ elapsed ⟩) (omega (arith, early, after)))
       (by-le (# day ⊠ ⟨ d ⟩ ⊞ ⟨ elapsed ⟩) (# (36_890 * day)) (omega (arith, late)))
 
+  pub days-small : natAbs d ≤ 2 ^ 17
+  days-small =
+      let early = to-le ⟨ negsuc 36_523 ⟩ ⟨ d ⟩ (a .not-early) in
+      let after = to-le (# 0) ⟨ elapsed ⟩ (a .from-midnight) in
+      let late = to-lt (# day ⊠ ⟨ d ⟩ ⊞ ⟨ elapsed ⟩) (# (36_890 * day)) (a .not-late) in
+      size-between d (2 ^ 17) (by-le (⊟ (# (2 ^ 17))) ⟨ d ⟩ (omega (arith, early))) (by-le ⟨ d ⟩ (# (2 ^ 17)) (omega (arith, after, late)))
+
+  pub elapsed-small : natAbs elapsed ≤ 2 ^ 42
+  elapsed-small =
+      let early = to-le ⟨ negsuc 36_523 ⟩ ⟨ d ⟩ (a .not-early) in
+      let after = to-le (# 0) ⟨ elapsed ⟩ (a .from-midnight) in
+      let late = to-lt (# day ⊠ ⟨ d ⟩ ⊞ ⟨ elapsed ⟩) (# (36_890 * day)) (a .not-late) in
+      size-between elapsed (2 ^ 42) (by-le (⊟ (# (2 ^ 42))) ⟨ elapsed ⟩ (omega (arith, after))) (by-le ⟨ elapsed ⟩ (# (2 ^ 42)) (omega (arith, early, late)))
+
+  pub ut1-most : natAbs ut1 ≤ second
+  ut1-most = omega (arith, a .ut1-small)
+
   universal-small : natAbs (universal-time d elapsed ut1) ≤ 36_890 * day + day / 2 + second
   universal-small =
-      let ut1-most : natAbs ut1 ≤ second = omega (arith, a .ut1-small) in
       subst (λ (z : ℤ). natAbs z ≤ 36_890 * day + day / 2 + second)
       (solveℤ ((x0 :+ x1) :- x2 :+ x3) (x0 :- x2 :+ x1 :+ x3) ((pos day *ℤ d) ∷ elapsed ∷ pos (day / 2) ∷ ut1 ∷ []) tt)
       (add-bound ((pos day *ℤ d +ℤ elapsed) -ℤ pos (day / 2)) ut1 (sub-bound (pos day *ℤ d +ℤ elapsed) (pos (day / 2)) clock-small (le-refl (day / 2)))

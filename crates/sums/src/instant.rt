@@ -5,7 +5,7 @@ use numbers::whole::mul_div;
 ghost use mathlib.Core.Path.{_≡_};
 ghost use Prim.Native.Nat.{_≤_, _^_};
 ghost use lib.IntN.{pos, natAbs};
-ghost use Rattle.sums.specs.Instant.{universal-time, terrestrial-time, furthest, powers, value, Suits, Reached};
+ghost use Rattle.sums.specs.Instant.{universal-time, terrestrial-time, Accepted, furthest, powers, value, Suits, Reached};
 
 // The unit of time: so many to a second.
 pub const SECOND: u64 = 10;
@@ -35,6 +35,12 @@ pub struct Powers {
     pub p4: i64,
 }
 
+// One moment in both scales: UT turns the Earth, TT moves the Sun and the Moon.
+pub struct Instant {
+    pub ut: i64,
+    pub tt: i64,
+}
+
 // UT of the days from 2000-01-01, the units of the day, and UT1 minus UTC.
 pub fn universal_time(days: i64, elapsed: i64, ut1: i64) -> i64
     requires { ⌜ (natAbs days ≤ 2 ^ 17) × ((natAbs elapsed ≤ 2 ^ 42) × (natAbs ut1 ≤ 2 ^ 42)) ⌝ }
@@ -51,6 +57,18 @@ pub fn terrestrial_time(ut: i64, delta: i64) -> i64
     ut + delta
 }
 
+// An accepted instant, from its day, the units of the day (and a batch's offset), UT1 minus UTC and delta-T.
+pub fn instant_at(days: i64, elapsed: i64, ut1: i64, delta: i64) -> Instant
+    requires { ⌜ Accepted days elapsed ut1 delta ⌝ }
+    ensures { λ r. ⌜
+        (r .ut ≡ universal-time days elapsed ut1) × (r .tt ≡ terrestrial-time (universal-time days elapsed ut1) delta) ⌝ }
+{
+    let ut = universal_time(days, elapsed, ut1);
+    let tt = terrestrial_time(ut, delta);
+    Instant { ut, tt }
+}
+
+// u, p2, p3 and p4.
 pub fn powers_at(n: i64) -> Powers
     requires { ⌜ natAbs n ≤ furthest ⌝ }
     ensures { λ r. ⌜ r ≡ powers n ⌝ }

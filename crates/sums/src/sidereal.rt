@@ -1,6 +1,8 @@
 // Sidereal time at Greenwich, of UT.
 use super::instant::DAY;
+use super::instant::Instant;
 use super::instant::Powers;
+use super::instant::powers_at;
 use numbers::angle::Angle;
 use numbers::sine::cosine_in;
 use numbers::whole::floor_div;
@@ -9,7 +11,7 @@ ghost use mathlib.Core.Path.{_≡_};
 ghost use Prim.Native.Nat.{_≤_, _^_};
 ghost use lib.IntN.{natAbs};
 ghost use Rattle.numbers.specs.SineTable.{sines};
-ghost use Rattle.sums.specs.Instant.{Reached};
+ghost use Rattle.sums.specs.Instant.{furthest, Reached};
 ghost use Rattle.sums.specs.Sidereal.{mean, apparent};
 
 // The mean sidereal time, reduced to one turn. The powers are those of UT.
@@ -29,4 +31,12 @@ pub fn apparent_at(table: &[u32; 361], t: Powers, nutation: i64, obliquity: i64)
     ensures { λ r. ⌜ r ≡ apparent (t .n) nutation obliquity ⌝ }
 {
     mean_at(t) as i64 + floor_div(nutation * cosine_in(table, obliquity), 1_000_000_000)
+}
+
+// The mean sidereal time of an instant: the Earth turns by UT, not by TT.
+pub fn mean_sidereal(instant: Instant) -> u64
+    requires { ⌜ (natAbs (instant .ut) ≤ furthest) × (natAbs (instant .tt) ≤ furthest) ⌝ }
+    ensures { λ r. ⌜ r ≡ mean (instant .ut) ⌝ }
+{
+    mean_at(powers_at(instant.ut))
 }
