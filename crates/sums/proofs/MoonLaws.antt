@@ -18,7 +18,8 @@ use Rattle.numbers.specs.Sine.{cosine, sine}
 use Rattle.numbers.proofs.Machine.{Mirror, gave}
 use Rattle.numbers.proofs.SineSize.{cosine-most, sine-most}
 use Rattle.sums.specs.Instant.{furthest, minus, p2, u}
-use Rattle.sums.specs.Moon.{E, E2, Slight, Summable, Turns, added, arguments, cosine-term, eccentricity, row-angle, sine-term, spread, weight}
+use Rattle.sums.specs.Moon.{E, E2, added, arguments, cosine-term, eccentricity, row-angle, sine-term, weight}
+use Rattle.sums.specs.MoonRange.{Slight, Summable, Turns, spread}
 use Rattle.sums.specs.MoonTerms.{L′, M′, latitude-terms, longitude-distance-terms}
 use Rattle.sums.specs.Table.{column, count, total}
 use Rattle.sums.specs.declared.moon.Eccentricity.{Eccentricity}

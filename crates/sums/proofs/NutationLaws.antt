@@ -12,8 +12,9 @@ use Rattle.numbers.specs.Angle.{full-turn}
 use Rattle.numbers.specs.Sine.{cosine, sine}
 use Rattle.numbers.proofs.SineSize.{cosine-most, sine-most}
 use Rattle.sums.specs.Instant.{u}
-use Rattle.sums.specs.Moon.{Turns}
-use Rattle.sums.specs.Nutation.{Summable, arguments, cosine-term, row-angle, sine-term, spread, weight}
+use Rattle.sums.specs.MoonRange.{Turns}
+use Rattle.sums.specs.Nutation.{arguments, cosine-term, row-angle, sine-term, weight}
+use Rattle.sums.specs.NutationRange.{Summable, spread}
 use Rattle.sums.specs.NutationTerms.{X0, X1, X2, X3, X4, nutation-terms}
 use Rattle.sums.specs.Table.{column, count, total}
 use Rattle.sums.proofs.InstantLaws.{value-small}

@@ -20,7 +20,8 @@ use Rattle.numbers.specs.Sine.{cosine, fold, half-fold, negated-from-half, quar
 use Rattle.numbers.specs.SineTable.{sines}
 use Rattle.numbers.proofs.SineSize.{cosine-most}
 use Rattle.sums.specs.Instant.{furthest, millennium, u}
-use Rattle.sums.specs.Sun.{SmallRay, Summable, down, group, phase, row-A, row-B, row-C, row-angle, row-value, series, spread}
+use Rattle.sums.specs.Sun.{down, group, phase, row-A, row-B, row-C, row-angle, row-value, series}
+use Rattle.sums.specs.SunRange.{SmallRay, Summable, spread}
 use Rattle.sums.specs.SunTerms.{B-groups, B0, B1, L-groups, L0, L1, L2, L3, L4, L5, R-groups, R0, R1, R2, R3, R4}
 use Rattle.sums.specs.Table.{count}
 use Rattle.sums.proofs.InstantLaws.{floor-size, u-most}

@@ -1,13 +1,12 @@
 -- The Moon's sums (01, "Moon"), at TT n.
-use Prim.Native.Nat.{ℕ, zero, suc, _+_, _*_, _^_, _≤_, _<_}
+use Prim.Native.Nat.{ℕ, zero, suc}
 use mathlib.Core.List.{List, [], _∷_}
-use lib.ListN.{getD, length}
 use lib.IntN.{ℤ, pos, natAbs, _+ℤ_, _*ℤ_, _-ℤ_}
 use Rattle.arithmetic.specs.Floor.{⌊_÷_⌋}
-use Rattle.numbers.specs.Angle.{full-turn, reduced}
+use Rattle.numbers.specs.Angle.{reduced}
 use Rattle.numbers.specs.Sine.{sine, cosine}
 use Rattle.sums.specs.Instant.{u, p2, value, minus}
-use Rattle.sums.specs.Table.{Bounded, column, count, total}
+use Rattle.sums.specs.Table.{column, total}
 use Rattle.sums.specs.MoonTerms as Of
 use Rattle.sums.specs.MoonTerms.{longitude-distance-terms, latitude-terms}
 use Rattle.sums.specs.declared.moon.Eccentricity.{Eccentricity}
@@ -53,25 +52,6 @@ by-sine n terms = total (sine-term (arguments n) (eccentricity n)) terms
 
 abbrev pub by-cosine : ℤ → List (List ℤ) → ℤ
 by-cosine n terms = total (cosine-term (arguments n) (eccentricity n)) terms
-
--- what keeps the sums within 64 bits: arguments within a turn, E and E2 little above a million, and tables whose weights add up to little
-pub record Turns (arguments : List ℤ) : Type 0 where
-  pub within : (i : ℕ) → natAbs (column arguments i) ≤ full-turn
-
-pub record Slight (e : Eccentricity) : Type 0 where
-  pub once : natAbs (e .e) ≤ 2 ^ 20
-  pub twice : natAbs (e .e2) ≤ 2 ^ 20
-
-abbrev pub SmallRow : List ℤ → Type 0
-SmallRow row = Bounded (4 ∷ 4 ∷ 4 ∷ 4 ∷ 2 ^ 25 ∷ 2 ^ 25 ∷ []) row
-
-abbrev pub spread : ℕ → List ℤ → ℕ
-spread i row = (105 * natAbs (column row i) + 1) * 1_000_000_001
-
-pub record Summable (terms : List (List ℤ)) : Type 0 where
-  pub each : (i : ℕ) → i < length terms → SmallRow (getD terms i [])
-  pub by-sine : count (spread 4) terms ≤ 2 ^ 62
-  pub by-cosine : count (spread 5) terms ≤ 2 ^ 62
 
 -- added at weight 100
 abbrev pub added : ℤ → ℤ → ℤ

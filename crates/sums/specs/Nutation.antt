@@ -1,12 +1,11 @@
 -- The nutation and the obliquity (01, "Nutation"), at TT n.
-use Prim.Native.Nat.{ℕ, _+_, _*_, _/_, _^_, _≤_, _<_}
+use Prim.Native.Nat.{ℕ, _*_, _/_}
 use mathlib.Core.List.{List, [], _∷_}
-use lib.IntN.{ℤ, pos, natAbs, _+ℤ_, _*ℤ_}
-use lib.ListN.{getD, length}
+use lib.IntN.{ℤ, pos, _+ℤ_, _*ℤ_}
 use Rattle.arithmetic.specs.Floor.{⌊_÷_⌋}
 use Rattle.numbers.specs.Sine.{sine, cosine}
 use Rattle.sums.specs.Instant.{u, p2, p3, minus}
-use Rattle.sums.specs.Table.{Bounded, column, count, total}
+use Rattle.sums.specs.Table.{column, total}
 use Rattle.sums.specs.Moon.{argument}
 use Rattle.sums.specs.NutationTerms.{X0, X1, X2, X3, X4, nutation-terms}
 
@@ -43,15 +42,3 @@ mean-obliquity n = pos (84_381_448 * 250 / 9) +ℤ ⌊ minus 468_093 *ℤ u n ÷
 
 abbrev pub obliquity : ℤ → ℤ
 obliquity n = mean-obliquity n +ℤ Δε n
-
--- what keeps the sums within 64 bits
-abbrev pub SmallRow : List ℤ → Type 0
-SmallRow row = Bounded (3 ∷ 3 ∷ 3 ∷ 3 ∷ 3 ∷ 2 ^ 18 ∷ 2 ^ 18 ∷ 2 ^ 18 ∷ 2 ^ 18 ∷ []) row
-
-abbrev pub spread : ℕ → ℕ → List ℤ → ℕ
-spread i j row = (10 * natAbs (column row i) + 2 * natAbs (column row j) + 1) * 1_000_000_001
-
-pub record Summable (terms : List (List ℤ)) : Type 0 where
-  pub each : (i : ℕ) → i < length terms → SmallRow (getD terms i [])
-  pub by-sine : count (spread 5 6) terms ≤ 2 ^ 57
-  pub by-cosine : count (spread 7 8) terms ≤ 2 ^ 57

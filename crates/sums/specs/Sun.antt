@@ -1,12 +1,12 @@
 -- The Sun's sums (01, "Sun"), at TT n: L, B, R in 10⁻¹⁰ radian or AU.
 use mathlib.Core.List.{List, [], _∷_}
-use Prim.Native.Nat.{ℕ, _+_, _*_, _/_, _^_, _≤_, _<_}
+use Prim.Native.Nat.{ℕ, _*_, _/_}
 use lib.IntN.{ℤ, pos, _+ℤ_, _*ℤ_}
-use lib.ListN.{getD, length}
+use lib.ListN.{getD}
 use Rattle.arithmetic.specs.Floor.{⌊_÷_⌋, _modulo_}
 use Rattle.numbers.specs.Sine.{cosine}
 use Rattle.sums.specs.Instant.{millennium, u}
-use Rattle.sums.specs.Table.{count, total}
+use Rattle.sums.specs.Table.{total}
 use Rattle.sums.specs.SunTerms.{L-groups, B-groups, R-groups}
 
 -- a row's A, B times 10⁸ and C times 10⁸
@@ -58,17 +58,3 @@ longitude-degrees l = ⌊ pos (l modulo 62_831_853_072) *ℤ pos 5_729_577_951 �
 
 unfoldable pub latitude-degrees : ℤ → ℤ
 latitude-degrees b = ⌊ b *ℤ pos 5_729_577_951 ÷ 10_000_000_000 ⌋
-
--- what keeps the sums within 64 bits: a row that moves has a small A, and a group's A add up to little
-pub record SmallRay (row : List ℕ) : Type 0 where
-  pub constant : row-A row ≤ 2 ^ 40
-  pub moving : 0 < row-B row + row-C row → row-A row ≤ 2 ^ 32
-  pub phase-B : row-B row ≤ 2 ^ 30
-  pub phase-C : row-C row ≤ 2 ^ 44
-
-abbrev pub spread : List ℕ → ℕ
-spread row = 101 * row-A row + 1
-
-pub record Summable (rows : List (List ℕ)) : Type 0 where
-  pub each : (i : ℕ) → i < length rows → SmallRay (getD rows i [])
-  pub all : count spread rows ≤ 2 ^ 46

@@ -19,7 +19,8 @@ ghost use Rattle.numbers.specs.SineTable.{sines};
 ghost use Rattle.sums.specs.Instant.{furthest, Reached};
 ghost use Rattle.sums.specs.Accuracy.{MoonNear};
 ghost use Rattle.sums.specs.Table.{total};
-ghost use Rattle.sums.specs.Moon.{arguments, eccentricity, weight, row-angle, sine-term, cosine-term, added, longitude-added, latitude-added, longitude, latitude, metres, Turns, Slight, SmallRow, Summable};
+ghost use Rattle.sums.specs.Moon.{arguments, eccentricity, weight, row-angle, sine-term, cosine-term, added, longitude-added, latitude-added, longitude, latitude, metres};
+ghost use Rattle.sums.specs.MoonRange.{Turns, Slight, SmallRow, Summable};
 
 // L'.
 const MEAN_LONGITUDE: Polynomial = Polynomial {

@@ -13,8 +13,9 @@ ghost use lib.IntN.{natAbs, _+ℤ_};
 ghost use Rattle.numbers.specs.SineTable.{sines};
 ghost use Rattle.sums.specs.Instant.{Reached};
 ghost use Rattle.sums.specs.Table.{total};
-ghost use Rattle.sums.specs.Moon.{Turns};
-ghost use Rattle.sums.specs.Nutation.{arguments, row-angle, weight, sine-term, cosine-term, Δψ, Δε, mean-obliquity, SmallRow, Summable};
+ghost use Rattle.sums.specs.MoonRange.{Turns};
+ghost use Rattle.sums.specs.Nutation.{arguments, row-angle, weight, sine-term, cosine-term, Δψ, Δε, mean-obliquity};
+ghost use Rattle.sums.specs.NutationRange.{SmallRow, Summable};
 
 // X0, the mean elongation of the Moon from the Sun.
 const MEAN_ELONGATION: Polynomial = Polynomial {

@@ -27,7 +27,8 @@ ghost use Rattle.arithmetic.specs.Floor.{⌊_÷_⌋};
 ghost use Rattle.numbers.specs.SineTable.{sines};
 ghost use Rattle.sums.specs.Instant.{furthest, millennium, u, Reached};
 ghost use Rattle.sums.specs.Accuracy.{SunNear};
-ghost use Rattle.sums.specs.Sun.{phase, row-angle, row-value, group, L, B, R, longitude-degrees, latitude-degrees, SmallRay, Summable};
+ghost use Rattle.sums.specs.Sun.{phase, row-angle, row-value, group, L, B, R, longitude-degrees, latitude-degrees};
+ghost use Rattle.sums.specs.SunRange.{SmallRay, Summable};
 
 const MILLENNIUM: u64 = 10 * CENTURY;
 

@@ -6,7 +6,8 @@ use borrow.Author.Needs.{needs}
 use Rattle.numbers.specs.Angle.{reduced}
 use Rattle.numbers.proofs.Machine.{Mirror, _⊕_, fits, floor-gave, gave, kept, lit, told}
 use Rattle.sums.specs.Instant.{furthest}
-use Rattle.sums.specs.Moon.{Slight, Summable, Turns, arguments, by-cosine, by-sine, cosine-term, eccentricity, latitude, latitude-added, latitude-sum, longitude, longitude-added, longitude-sum, metres, sine-term}
+use Rattle.sums.specs.Moon.{arguments, by-cosine, by-sine, cosine-term, eccentricity, latitude, latitude-added, latitude-sum, longitude, longitude-added, longitude-sum, metres, sine-term}
+use Rattle.sums.specs.MoonRange.{Slight, Summable, Turns}
 use Rattle.sums.specs.MoonTerms.{A1, A2, A3, L′, latitude-terms, longitude-distance-terms}
 use Rattle.sums.specs.Table.{column, total}
 use Rattle.sums.proofs.Accurate.{moon-near}

@@ -10,7 +10,8 @@ use borrow.Author.Needs.{needs}
 use Rattle.numbers.specs.Sine.{cosine, sine}
 use Rattle.numbers.proofs.Machine.{Mirror, _⊗_, fits, gave, kept, passed}
 use Rattle.numbers.proofs.SineSize.{sine-most}
-use Rattle.sums.specs.Moon.{Slight, SmallRow, row-angle, weight}
+use Rattle.sums.specs.Moon.{row-angle, weight}
+use Rattle.sums.specs.MoonRange.{Slight, SmallRow}
 use Rattle.sums.specs.Table.{column}
 use Rattle.sums.specs.declared.moon.Eccentricity.{Eccentricity}
 use Rattle.sums.proofs.MoonLaws.{weight-small}

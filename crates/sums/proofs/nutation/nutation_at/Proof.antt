@@ -7,8 +7,9 @@ use lib.IntN.{natAbs, pos, ℤ}
 use borrow.Author.Needs.{needs}
 use Rattle.numbers.proofs.Machine.{Mirror, _⊗_, fits, floor-gave, kept, lit, told}
 use Rattle.sums.specs.Instant.{u}
-use Rattle.sums.specs.Moon.{Turns}
-use Rattle.sums.specs.Nutation.{Summable, arguments, cosine-term, sine-term, Δε, Δψ}
+use Rattle.sums.specs.MoonRange.{Turns}
+use Rattle.sums.specs.Nutation.{arguments, cosine-term, sine-term, Δε, Δψ}
+use Rattle.sums.specs.NutationRange.{Summable}
 use Rattle.sums.specs.NutationTerms.{nutation-terms}
 use Rattle.sums.specs.Table.{total}
 use Rattle.sums.specs.declared.instant.Powers.{Powers}

@@ -10,7 +10,8 @@ use borrow.Author.Needs.{needs}
 use Rattle.numbers.specs.Sine.{cosine, sine}
 use Rattle.numbers.proofs.Machine.{Mirror, _⊗_, arg, fits, gave, kept, passed}
 use Rattle.numbers.proofs.SineSize.{sine-most}
-use Rattle.sums.specs.Nutation.{SmallRow, row-angle, weight}
+use Rattle.sums.specs.Nutation.{row-angle, weight}
+use Rattle.sums.specs.NutationRange.{SmallRow}
 use Rattle.sums.specs.Table.{column}
 use Rattle.sums.proofs.NarrowMirror.{asked, narrow, widened}
 use Rattle.sums.proofs.NutationLaws.{weight-small}

@@ -7,7 +7,7 @@ use lib.IntN.{natAbs, ℤ}
 use borrow.Author.Needs.{needs}
 use Rattle.numbers.proofs.Machine.{Mirror, gave, passed, told}
 use Rattle.sums.specs.Instant.{furthest}
-use Rattle.sums.specs.Sun.{Summable}
+use Rattle.sums.specs.SunRange.{Summable}
 use Rattle.sums.specs.SunTerms.{R0, R1, R2, R3, R4}
 use Rattle.sums.proofs.NarrowMirror.{asked}
 use Rattle.sums.proofs.SunLaws.{R-sound, down-is, none-above, series-is}

@@ -8,7 +8,8 @@ use Rattle.numbers.specs.Angle.{full-turn}
 use Rattle.numbers.specs.Sine.{cosine}
 use Rattle.numbers.proofs.Machine.{Mirror, _⊗_, any, fits, floor-gave, from-nat, gave, kept, lit, nat-fits}
 use Rattle.numbers.proofs.SineSize.{cosine-most}
-use Rattle.sums.specs.Sun.{SmallRay, row-A, row-B, row-C, row-angle, row-value}
+use Rattle.sums.specs.Sun.{row-A, row-B, row-C, row-angle, row-value}
+use Rattle.sums.specs.SunRange.{SmallRay}
 use Rattle.sums.proofs.SunLaws.{above, constant-value, row-angle-small}
 use Rattle.sums.proofs.sun.row_value.Statement.{statement}
 use Rattle.sums.proofs.sun.row_value.Tie as tie

@@ -1,0 +1,26 @@
+-- What keeps the Moon's sums within 64 bits: arguments within a turn, E and E2 little above a million, and tables whose weights add up to little.
+use mathlib.Core.List.{List, [], _∷_}
+use Prim.Native.Nat.{ℕ, _+_, _*_, _^_, _≤_, _<_}
+use lib.IntN.{ℤ, natAbs}
+use lib.ListN.{getD, length}
+use Rattle.numbers.specs.Angle.{full-turn}
+use Rattle.sums.specs.Table.{Bounded, column, count}
+use Rattle.sums.specs.declared.moon.Eccentricity.{Eccentricity}
+
+pub record Turns (arguments : List ℤ) : Type 0 where
+  pub within : (i : ℕ) → natAbs (column arguments i) ≤ full-turn
+
+pub record Slight (e : Eccentricity) : Type 0 where
+  pub once : natAbs (e .e) ≤ 2 ^ 20
+  pub twice : natAbs (e .e2) ≤ 2 ^ 20
+
+abbrev pub SmallRow : List ℤ → Type 0
+SmallRow row = Bounded (4 ∷ 4 ∷ 4 ∷ 4 ∷ 2 ^ 25 ∷ 2 ^ 25 ∷ []) row
+
+abbrev pub spread : ℕ → List ℤ → ℕ
+spread i row = (105 * natAbs (column row i) + 1) * 1_000_000_001
+
+pub record Summable (terms : List (List ℤ)) : Type 0 where
+  pub each : (i : ℕ) → i < length terms → SmallRow (getD terms i [])
+  pub by-sine : count (spread 4) terms ≤ 2 ^ 62
+  pub by-cosine : count (spread 5) terms ≤ 2 ^ 62
