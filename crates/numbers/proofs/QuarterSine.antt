@@ -233,10 +233,14 @@ module _ (h : ℕ) (lt : h < 25_000_000) where
 
   -- the series at u
   cos-near : Within (cos₄₀ u -q (nat 1 -q u *q u *q half)) cos-tail
-  cos-near = subst (λ z. Within (cos₄₀ u -q z) cos-tail) (cos-4 u) (within-le (tail-within (cos-term u) (exp-term most) (cos-within u-within) (lit≤ tt)) cos-tail-ok)
+  cos-near =
+      subst (λ z. Within (cos₄₀ u -q z) cos-tail) (cos-4 u)
+      (within-le (tail-within (cos-term u) (exp-term most) (cos-within u-within) (lit≤ tt)) cos-tail-ok)
 
   sin-near : Within (sin₄₀ u -q (u -q u *q u *q u *q sixth)) sin-tail
-  sin-near = subst (λ z. Within (sin₄₀ u -q z) sin-tail) (sin-5 u) (within-le (tail-within (sin-term u) (exp-term most) (sin-within u-within) (lit≤ tt)) sin-tail-ok)
+  sin-near =
+      subst (λ z. Within (sin₄₀ u -q z) sin-tail) (sin-5 u)
+      (within-le (tail-within (sin-term u) (exp-term most) (sin-within u-within) (lit≤ tt)) sin-tail-ok)
 
   -- the rest's cosine against the series
   cosine-near : Within (nat (rest-cosine r) -q billion *q cos₄₀ u) cosine-error

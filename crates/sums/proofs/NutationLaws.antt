@@ -33,10 +33,14 @@ weight-most u h a b =
 
 module _ (args : List ℤ) (u : ℤ) (h : natAbs u ≤ 2 ^ 20) where
   pub sine-term-most : (row : List ℤ) → natAbs (sine-term args u row) ≤ spread 5 6 row
-  sine-term-most row = mul-bound (weight u (column row 5) (column row 6)) (sine (row-angle args row)) (weight-most u h (column row 5) (column row 6)) (sine-most (row-angle args row))
+  sine-term-most row =
+      mul-bound (weight u (column row 5) (column row 6)) (sine (row-angle args row)) (weight-most u h (column row 5) (column row 6))
+      (sine-most (row-angle args row))
 
   pub cosine-term-most : (row : List ℤ) → natAbs (cosine-term args u row) ≤ spread 7 8 row
-  cosine-term-most row = mul-bound (weight u (column row 7) (column row 8)) (cosine (row-angle args row)) (weight-most u h (column row 7) (column row 8)) (cosine-most (row-angle args row))
+  cosine-term-most row =
+      mul-bound (weight u (column row 7) (column row 8)) (cosine (row-angle args row)) (weight-most u h (column row 7) (column row 8))
+      (cosine-most (row-angle args row))
 
   -- the sums of a table are small
   module _ (terms : List (List ℤ)) (fit : Summable terms) where

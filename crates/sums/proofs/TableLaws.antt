@@ -42,7 +42,9 @@ module _ {A : Type 0} where
   count-row g (row ∷ rows) (suc i) d h = le-trans (count-row g rows i d (le-of-suc-le-suc h)) (le-add-left (count g rows) (g row))
 
   pub total-size : (f : A → ℤ) (g : A → ℕ) → ((row : A) → natAbs (f row) ≤ g row) → (rows : List A) → natAbs (total f rows) ≤ count g rows
-  total-size f g h rows = subst (λ (r : List A). natAbs (total f r) ≤ count g rows) (take-all rows (length rows) (le-refl (length rows))) (total-most f g h rows (length rows))
+  total-size f g h rows =
+      subst (λ (r : List A). natAbs (total f r) ≤ count g rows) (take-all rows (length rows) (le-refl (length rows)))
+      (total-most f g h rows (length rows))
 
 -- a row within its bounds, by a test of the columns 0, 1, ..
 abbrev pub within-bound : List ℤ → ℕ → ℕ → Bool

@@ -43,4 +43,6 @@ returns-3 : tie.Need-returns-3
 returns-3 c = is-direction (c .before .before .before) (c .wide-direction2 .result .units) (c .wide-direction2 .ensures)
 
 pub direction-spec : {M : Type 1} → statement M
-direction-spec = tie.close (tie.spec is-small-requires is-small-requires-2 narrow-direction-requires returns wide-direction-requires returns-2 wide-direction-requires-2 returns-3)
+direction-spec =
+    tie.close (tie.spec is-small-requires is-small-requires-2 narrow-direction-requires returns wide-direction-requires returns-2
+    wide-direction-requires-2 returns-3)

@@ -101,4 +101,6 @@ returns c =
     ∙ sym (step-signed (k b) (s b .args .s))
 
 pub stepped-spec : {M : Type 1} → statement M
-stepped-spec = tie.close (tie.spec sign-of-requires cast-dx shr-dx cast-dy shr-dy mul-t10 add-t11 mul-t12 sub-t13 mul-t14 element-copy-out-t17 mul-t18 add-t19 returns)
+stepped-spec =
+    tie.close (tie.spec sign-of-requires cast-dx shr-dx cast-dy shr-dy mul-t10 add-t11 mul-t12 sub-t13 mul-t14 element-copy-out-t17 mul-t18 add-t19
+    returns)

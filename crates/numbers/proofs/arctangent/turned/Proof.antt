@@ -17,7 +17,8 @@ abbrev μ-loop : tie.MeasureT-loop
 μ-loop table r₀ k₀ r k = 30 - k
 
 -- no number of the pair passes 2⁶⁰
-sizes : (k : ℕ) (s r : Turning) → k < 30 → r ≡ steps k s → (natAbs (s .x) ≤ 2 ^ 50) × (natAbs (s .y) ≤ 2 ^ 50) × (natAbs (s .angle) ≤ 2 ^ 50) → Sized (2 ^ 60) (2 ^ 60) r
+sizes : (k : ℕ) (s r : Turning) → k < 30 → r ≡ steps k s → (natAbs (s .x) ≤ 2 ^ 50) × (natAbs (s .y) ≤ 2 ^ 50) × (natAbs (s .angle) ≤ 2 ^ 50)
+    → Sized (2 ^ 60) (2 ^ 60) r
 sizes k s r h e p =
     subst⁻¹ (Sized (2 ^ 60) (2 ^ 60)) e (narrow-sized k s (omega arith) (record { x-size = p .0; y-size = p .1; angle-size = p .2 }))
 

@@ -94,4 +94,6 @@ returns c =
     ap₂ (λ (a b : ℕ). (a * rest-cosine r + b * rest-sine r) / 1_000_000_000) (first-is (c .before .before)) (second-is c)
 
 pub quarter-sine-spec : {M : Type 1} → statement M
-quarter-sine-spec = tie.close (tie.spec mul-r mul-q mul-cosine sub-cosine mul-sine sub-sine mul-wide element-copy-out-wide wide-requires mul-result sub-wide mul-wide-2 element-copy-out-wide-2 wide-requires-2 mul-result-2 add-result returns)
+quarter-sine-spec =
+    tie.close (tie.spec mul-r mul-q mul-cosine sub-cosine mul-sine sub-sine mul-wide element-copy-out-wide wide-requires mul-result sub-wide
+    mul-wide-2 element-copy-out-wide-2 wide-requires-2 mul-result-2 add-result returns)

@@ -82,10 +82,14 @@ module _ (d : tie.After-divided2) where
   small-floor v h = signed-small (Y st) ⌊ v ÷ 2 ^ k st ⌋ (le-trans (floor-small v (2 ^ k st)) h)
 
   x-small : natAbs (X st +ℤ c w .machine *ℤ value (d .before .divided .result)) ≤ 2 ^ 83
-  x-small = subst⁻¹ (λ (z : ℤ). natAbs z ≤ 2 ^ 83) x-is (add-bound (X st) (sign (Y st) *ℤ ⌊ Y st ÷ 2 ^ k st ⌋) (room st .x-size) (small-floor (Y st) (room st .y-size)))
+  x-small =
+      subst⁻¹ (λ (z : ℤ). natAbs z ≤ 2 ^ 83) x-is
+      (add-bound (X st) (sign (Y st) *ℤ ⌊ Y st ÷ 2 ^ k st ⌋) (room st .x-size) (small-floor (Y st) (room st .y-size)))
 
   y-small : natAbs (Y st +ℤ c′ w .machine *ℤ value (d .divided2 .result)) ≤ 2 ^ 83
-  y-small = subst⁻¹ (λ (z : ℤ). natAbs z ≤ 2 ^ 83) y-is (sub-bound (Y st) (sign (Y st) *ℤ ⌊ X st ÷ 2 ^ k st ⌋) (room st .y-size) (small-floor (X st) (room st .x-size)))
+  y-small =
+      subst⁻¹ (λ (z : ℤ). natAbs z ≤ 2 ^ 83) y-is
+      (sub-bound (Y st) (sign (Y st) *ℤ ⌊ X st ÷ 2 ^ k st ⌋) (room st .y-size) (small-floor (X st) (room st .x-size)))
 
 sign-most : (m : Mirror) → m .most ≡ 1 → natAbs (m .machine) ≤ 1
 sign-most m e = subst⁻¹ (λ (z : ℤ). natAbs z ≤ 1) (m .same) (subst (λ (n : ℕ). natAbs (m .number) ≤ n) e (m .bound))
@@ -133,4 +137,6 @@ returns d =
     )
 
 pub wide-stepped-spec : {M : Type 1} → statement M
-wide-stepped-spec = tie.close (tie.spec wide-sign-requires divided-requires divided-requires-2 plus-times-requires sub-plus-times plus-times-requires-2 mul-t14 element-copy-out-t17 mul-t18 add-t19 returns)
+wide-stepped-spec =
+    tie.close (tie.spec wide-sign-requires divided-requires divided-requires-2 plus-times-requires sub-plus-times plus-times-requires-2 mul-t14
+    element-copy-out-t17 mul-t18 add-t19 returns)

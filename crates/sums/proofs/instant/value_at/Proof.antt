@@ -154,4 +154,6 @@ returns : tie.Need-returns
 returns c = from-nat (units-small (c .before)) tt .same ∙ ap pos (units-are (c .before))
 
 pub value-at-spec : {M : Type 1} → statement M
-value-at-spec = tie.close (tie.spec mul-div-requires mul-floor-div floor-div-requires mul-floor-div-2 mul-floor-div-3 floor-div-requires-2 mul-floor-div-4 mul-floor-div-5 floor-div-requires-3 add-new add-new-2 add-new-3 add-new-4 new-requires cast-result returns)
+value-at-spec =
+    tie.close (tie.spec mul-div-requires mul-floor-div floor-div-requires mul-floor-div-2 mul-floor-div-3 floor-div-requires-2 mul-floor-div-4
+    mul-floor-div-5 floor-div-requires-3 add-new add-new-2 add-new-3 add-new-4 new-requires cast-result returns)

@@ -56,4 +56,6 @@ returns c = λ i. record {
 }
 
 pub eccentricity-at-spec : {M : Type 1} → statement M
-eccentricity-at-spec = tie.close (tie.spec mul-floor-div floor-div-requires add-e mul-floor-div-2 floor-div-requires-2 add-e-2 mul-floor-div-3 floor-div-requires-3 returns)
+eccentricity-at-spec =
+    tie.close (tie.spec mul-floor-div floor-div-requires add-e mul-floor-div-2 floor-div-requires-2 add-e-2 mul-floor-div-3 floor-div-requires-3
+    returns)

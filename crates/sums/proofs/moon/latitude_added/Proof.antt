@@ -20,7 +20,9 @@ module _ (s : tie.Start) where
   sum = arg (s .fits .sum) (s .pre .1 .0)
 
 abbrev sum1 : tie.After-added → Mirror
-sum1 c = sum (c .before .before) ⊕ added-gave (negsuc 2234) (column (c .before .before .args .t3) 0) (c .added .ok) (c .added .ensures) (argument (c .before .before) 0 .same) tt
+sum1 c =
+    sum (c .before .before) ⊕ added-gave (negsuc 2234) (column (c .before .before .args .t3) 0) (c .added .ok) (c .added .ensures)
+    (argument (c .before .before) 0 .same) tt
 
 abbrev sum2 : tie.After-added2 → Mirror
 sum2 c =
@@ -129,4 +131,7 @@ returns : tie.Need-returns
 returns c = kept (sum6 c) tt .same
 
 pub latitude-added-spec : {M : Type 1} → statement M
-latitude-added-spec = tie.close (tie.spec array-copy-out-added added-requires add-result added-requires-2 add-result-2 array-copy-out-added-2 sub-added added-requires-3 add-result-3 array-copy-out-added-3 add-added added-requires-4 add-result-4 array-copy-out-added-4 array-copy-out-added-5 sub-added-2 added-requires-5 add-result-5 array-copy-out-added-6 array-copy-out-added-7 add-added-2 added-requires-6 add-result-6 returns)
+latitude-added-spec =
+    tie.close (tie.spec array-copy-out-added added-requires add-result added-requires-2 add-result-2 array-copy-out-added-2 sub-added added-requires-3
+    add-result-3 array-copy-out-added-3 add-added added-requires-4 add-result-4 array-copy-out-added-4 array-copy-out-added-5 sub-added-2
+    added-requires-5 add-result-5 array-copy-out-added-6 array-copy-out-added-7 add-added-2 added-requires-6 add-result-6 returns)

@@ -63,4 +63,6 @@ returns : tie.Need-returns
 returns c = kept (sum3 c) tt .same
 
 pub longitude-added-spec : {M : Type 1} → statement M
-longitude-added-spec = tie.close (tie.spec added-requires add-result array-copy-out-added array-copy-out-added-2 sub-added added-requires-2 add-result-2 added-requires-3 add-result-3 returns)
+longitude-added-spec =
+    tie.close (tie.spec added-requires add-result array-copy-out-added array-copy-out-added-2 sub-added added-requires-2 add-result-2 added-requires-3
+    add-result-3 returns)

@@ -43,10 +43,14 @@ module _ (c : tie.After-term-sums) where
       ∙ (λ i. total (cosine-term (c .before .before .before .before .before .before .before .arguments .ensures i) (c .before .before .before .before .before .before .eccentricity-at .ensures i)) (c .before .before .longitude-distance-terms .ensures i))
 
   abbrev longitude-rows : Mirror
-  longitude-rows = told first-sine (by-sine-small (arguments (n s₁)) (eccentricity (n s₁)) (eccentricity-slight (n s₁) (near s₁)) longitude-distance-terms longitude-distance-fits) tt
+  longitude-rows =
+      told first-sine (by-sine-small (arguments (n s₁)) (eccentricity (n s₁)) (eccentricity-slight (n s₁) (near s₁)) longitude-distance-terms
+      longitude-distance-fits) tt
 
   abbrev distance-rows : Mirror
-  distance-rows = told first-cosine (by-cosine-small (arguments (n s₁)) (eccentricity (n s₁)) (eccentricity-slight (n s₁) (near s₁)) longitude-distance-terms longitude-distance-fits) tt
+  distance-rows =
+      told first-cosine (by-cosine-small (arguments (n s₁)) (eccentricity (n s₁)) (eccentricity-slight (n s₁) (near s₁)) longitude-distance-terms
+      longitude-distance-fits) tt
 
 module _ (c : tie.After-term-sums2) where
   abbrev s₂ : tie.Start
@@ -57,7 +61,8 @@ module _ (c : tie.After-term-sums2) where
       ∙ (λ i. total (sine-term (c .before .before .before .before .before .before .before .before .before .before .arguments .ensures i) (c .before .before .before .before .before .before .before .before .before .eccentricity-at .ensures i)) (c .before .before .latitude-terms .ensures i))
 
   abbrev latitude-rows : Mirror
-  latitude-rows = told second-sine (by-sine-small (arguments (n s₂)) (eccentricity (n s₂)) (eccentricity-slight (n s₂) (near s₂)) latitude-terms latitude-fits) tt
+  latitude-rows =
+      told second-sine (by-sine-small (arguments (n s₂)) (eccentricity (n s₂)) (eccentricity-slight (n s₂) (near s₂)) latitude-terms latitude-fits) tt
 
 abbrev a1-mirror : tie.After-value-at → Mirror
 a1-mirror c = gave (c .value-at .ok) (c .value-at .ensures) (value-small A1 (n (c .before .before .before)))
@@ -95,7 +100,10 @@ abbrev latitude-total : tie.After-latitude-added → Mirror
 latitude-total c = some-gave (c .latitude-added .ok) (latitude-is c)
 
 abbrev metres-total : tie.After-floor-div3 → Mirror
-metres-total c = lit (pos 385_000_560) ⊕ floor-gave (distance-rows (c .before .before .before .before .before .before .before .before .before .before .before .before .before)) 100_000_000_000 (c .floor-div3 .ok) (c .floor-div3 .ensures)
+metres-total c =
+    lit (pos 385_000_560) ⊕ floor-gave (distance-rows
+    (c .before .before .before .before .before .before .before .before .before .before .before .before .before)) 100_000_000_000 (c .floor-div3 .ok)
+    (c .floor-div3 .ensures)
 
 arguments-requires : tie.Need-arguments-requires
 arguments-requires c κs = search needs
@@ -119,7 +127,13 @@ slice-aggregate-term-sums : tie.Need-slice-aggregate-term-sums
 slice-aggregate-term-sums c = search needs
 
 term-sums-requires : tie.Need-term-sums-requires
-term-sums-requires c κs = (c .before .before .before .before .before .before .before .pre .0, (turns (c .before .before .before .before .before .before), (slight (c .before .before .before .before .before), subst⁻¹ Summable (c .before .longitude-distance-terms .ensures) longitude-distance-fits)))
+term-sums-requires c κs = (
+  c .before .before .before .before .before .before .before .pre .0,
+  (
+    turns (c .before .before .before .before .before .before),
+    (slight (c .before .before .before .before .before), subst⁻¹ Summable (c .before .longitude-distance-terms .ensures) longitude-distance-fits),
+  ),
+)
 
 latitude-terms-requires : tie.Need-latitude-terms-requires
 latitude-terms-requires c κs = search needs
@@ -128,13 +142,40 @@ slice-aggregate-term-sums-2 : tie.Need-slice-aggregate-term-sums-2
 slice-aggregate-term-sums-2 c = search needs
 
 term-sums-requires-2 : tie.Need-term-sums-requires-2
-term-sums-requires-2 c κs = (c .before .before .before .before .before .before .before .before .before .before .pre .0, (turns (c .before .before .before .before .before .before .before .before .before), (slight (c .before .before .before .before .before .before .before .before), subst⁻¹ Summable (c .before .latitude-terms .ensures) latitude-fits)))
+term-sums-requires-2 c κs = (
+  c .before .before .before .before .before .before .before .before .before .before .pre .0,
+  (
+    turns (c .before .before .before .before .before .before .before .before .before),
+    (
+      slight (c .before .before .before .before .before .before .before .before),
+      subst⁻¹ Summable (c .before .latitude-terms .ensures)
+          latitude-fits,
+    ),
+  ),
+)
 
 longitude-added-requires : tie.Need-longitude-added-requires
-longitude-added-requires c κs = (c .before .before .before .before .before .before .before .before .before .before .before .before .pre .0, (asked (longitude-rows (c .before .before .before .before)) tt, turns (c .before .before .before .before .before .before .before .before .before .before .before)))
+longitude-added-requires c κs = (
+  c .before .before .before .before .before .before .before .before .before .before .before .before .pre .0,
+  (
+    asked (longitude-rows (c .before .before .before .before)) tt,
+    turns
+        (c .before .before .before .before .before .before .before .before .before .before .before),
+  ),
+)
 
 latitude-added-requires : tie.Need-latitude-added-requires
-latitude-added-requires c κs = (c .before .before .before .before .before .before .before .before .before .before .before .before .before .before .pre .0, (asked (latitude-rows (c .before .before .before)) tt, (turns (c .before .before .before .before .before .before .before .before .before .before .before .before .before), asked (a1-mirror (c .before .before .before .before .before .before .before .before .before .before .before)) tt)))
+latitude-added-requires c κs = (
+  c .before .before .before .before .before .before .before .before .before .before .before .before .before .before .pre .0,
+  (
+    asked (latitude-rows (c .before .before .before)) tt,
+    (
+      turns (c .before .before .before .before .before .before .before .before .before .before .before .before .before),
+      asked
+          (a1-mirror (c .before .before .before .before .before .before .before .before .before .before .before)) tt,
+    ),
+  ),
+)
 
 array-copy-out-new : tie.Need-array-copy-out-new
 array-copy-out-new c = search needs
@@ -168,4 +209,8 @@ returns c = (
 )
 
 pub moon-at-spec : {M : Type 1} → statement M
-moon-at-spec = tie.close (tie.spec arguments-requires eccentricity-at-requires value-at-requires value-at-requires-2 value-at-requires-3 longitude-distance-terms-requires slice-aggregate-term-sums term-sums-requires latitude-terms-requires slice-aggregate-term-sums-2 term-sums-requires-2 longitude-added-requires latitude-added-requires array-copy-out-new floor-div-requires add-new new-requires floor-div-requires-2 floor-div-requires-3 add-t29 returns)
+moon-at-spec =
+    tie.close (tie.spec arguments-requires eccentricity-at-requires value-at-requires value-at-requires-2 value-at-requires-3
+    longitude-distance-terms-requires slice-aggregate-term-sums term-sums-requires latitude-terms-requires slice-aggregate-term-sums-2
+    term-sums-requires-2 longitude-added-requires latitude-added-requires array-copy-out-new floor-div-requires add-new new-requires
+    floor-div-requires-2 floor-div-requires-3 add-t29 returns)

@@ -55,13 +55,17 @@ array-copy-out-result-5 : tie.Need-array-copy-out-result-5
 array-copy-out-result-5 c = search needs
 
 cast-result-3 : tie.Need-cast-result-3
-cast-result-3 c = widened (column (c .before .before .before .before .before .args .t2) 2) (c .before .before .before .before .before .pre .1 .each 2 (leb→le 3 6 tt)) tt
+cast-result-3 c =
+    widened (column (c .before .before .before .before .before .args .t2) 2)
+    (c .before .before .before .before .before .pre .1 .each 2 (leb→le 3 6 tt)) tt
 
 array-copy-out-result-6 : tie.Need-array-copy-out-result-6
 array-copy-out-result-6 c = search needs
 
 mul-result-3 : tie.Need-mul-result-3
-mul-result-3 c = fits (product (c .before .before .before .before .before .before) 2 3 (c .before .before .before .before .before .before .pre .1 .each 2 (leb→le 3 6 tt))) tt
+mul-result-3 c =
+    fits (product (c .before .before .before .before .before .before) 2 3
+    (c .before .before .before .before .before .before .pre .1 .each 2 (leb→le 3 6 tt))) tt
 
 add-result-2 : tie.Need-add-result-2
 add-result-2 c = fits (sum3 (c .before .before .before .before .before .before)) tt
@@ -70,13 +74,17 @@ array-copy-out-result-7 : tie.Need-array-copy-out-result-7
 array-copy-out-result-7 c = search needs
 
 cast-result-4 : tie.Need-cast-result-4
-cast-result-4 c = widened (column (c .before .before .before .before .before .before .before .args .t2) 3) (c .before .before .before .before .before .before .before .pre .1 .each 3 (leb→le 4 6 tt)) tt
+cast-result-4 c =
+    widened (column (c .before .before .before .before .before .before .before .args .t2) 3)
+    (c .before .before .before .before .before .before .before .pre .1 .each 3 (leb→le 4 6 tt)) tt
 
 array-copy-out-result-8 : tie.Need-array-copy-out-result-8
 array-copy-out-result-8 c = search needs
 
 mul-result-4 : tie.Need-mul-result-4
-mul-result-4 c = fits (product (c .before .before .before .before .before .before .before .before) 3 4 (c .before .before .before .before .before .before .before .before .pre .1 .each 3 (leb→le 4 6 tt))) tt
+mul-result-4 c =
+    fits (product (c .before .before .before .before .before .before .before .before) 3 4
+    (c .before .before .before .before .before .before .before .before .pre .1 .each 3 (leb→le 4 6 tt))) tt
 
 add-result-3 : tie.Need-add-result-3
 add-result-3 c = fits (sum4 (c .before .before .before .before .before .before .before .before)) tt
@@ -85,4 +93,7 @@ returns : tie.Need-returns
 returns c = kept (sum4 (c .before .before .before .before .before .before .before .before)) tt .same
 
 pub row-angle-spec : {M : Type 1} → statement M
-row-angle-spec = tie.close (tie.spec array-copy-out-result cast-result array-copy-out-result-2 mul-result array-copy-out-result-3 cast-result-2 array-copy-out-result-4 mul-result-2 add-result array-copy-out-result-5 cast-result-3 array-copy-out-result-6 mul-result-3 add-result-2 array-copy-out-result-7 cast-result-4 array-copy-out-result-8 mul-result-4 add-result-3 returns)
+row-angle-spec =
+    tie.close (tie.spec array-copy-out-result cast-result array-copy-out-result-2 mul-result array-copy-out-result-3 cast-result-2
+    array-copy-out-result-4 mul-result-2 add-result array-copy-out-result-5 cast-result-3 array-copy-out-result-6 mul-result-3 add-result-2
+    array-copy-out-result-7 cast-result-4 array-copy-out-result-8 mul-result-4 add-result-3 returns)

@@ -102,10 +102,16 @@ array-copy-out-weight-2 : tie.Need-array-copy-out-weight-2
 array-copy-out-weight-2 c = search needs
 
 cast-weight-2 : tie.Need-cast-weight-2
-cast-weight-2 c = widened (column (row (c .before .before .before .before .before .before .before)) 5) (small (c .before .before .before .before .before .before .before) .each 5 (leb→le 6 6 tt)) tt
+cast-weight-2 c =
+    widened (column (row (c .before .before .before .before .before .before .before)) 5)
+    (small (c .before .before .before .before .before .before .before) .each 5 (leb→le 6 6 tt)) tt
 
 weight-requires-2 : tie.Need-weight-requires-2
-weight-requires-2 c κs = (slight (c .before .before .before .before .before .before .before), asked (cosine-column (c .before .before .before .before .before .before .before)) tt)
+weight-requires-2 c κs = (
+  slight (c .before .before .before .before .before .before .before),
+  asked
+      (cosine-column (c .before .before .before .before .before .before .before)) tt,
+)
 
 cosine-term-requires : tie.Need-cosine-term-requires
 cosine-term-requires c κs = (c .before .before .before .before .before .before .before .before .pre .0, asked (cosine-weight c) tt)
@@ -117,4 +123,6 @@ returns c = (
 )
 
 pub row-terms-spec : {M : Type 1} → statement M
-row-terms-spec = tie.close (tie.spec row-angle-requires array-copy-out-absolute cast-absolute absolute-requires array-copy-out-weight cast-weight weight-requires sine-in-requires mul-sine array-copy-out-weight-2 cast-weight-2 weight-requires-2 cosine-term-requires returns)
+row-terms-spec =
+    tie.close (tie.spec row-angle-requires array-copy-out-absolute cast-absolute absolute-requires array-copy-out-weight cast-weight weight-requires
+    sine-in-requires mul-sine array-copy-out-weight-2 cast-weight-2 weight-requires-2 cosine-term-requires returns)

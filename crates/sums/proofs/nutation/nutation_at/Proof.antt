@@ -33,10 +33,14 @@ module _ (c : tie.After-term-sums) where
   s₁ = c .before .before .before .before .before
 
   sine-is : c .term-sums .result .sine ≡ total (sine-term (arguments (n s₁)) (u (n s₁))) nutation-terms
-  sine-is = c .term-sums .ensures .0 ∙ (λ i. total (sine-term (c .before .before .before .before .arguments .ensures i) (u-mirror s₁ .same i)) (c .before .before .before .nutation-terms .ensures i))
+  sine-is =
+      c .term-sums .ensures .0 ∙ (λ i. total (sine-term (c .before .before .before .before .arguments .ensures i) (u-mirror s₁ .same i))
+      (c .before .before .before .nutation-terms .ensures i))
 
   cosine-is : c .term-sums .result .cosine ≡ total (cosine-term (arguments (n s₁)) (u (n s₁))) nutation-terms
-  cosine-is = c .term-sums .ensures .1 ∙ (λ i. total (cosine-term (c .before .before .before .before .arguments .ensures i) (u-mirror s₁ .same i)) (c .before .before .before .nutation-terms .ensures i))
+  cosine-is =
+      c .term-sums .ensures .1 ∙ (λ i. total (cosine-term (c .before .before .before .before .arguments .ensures i) (u-mirror s₁ .same i))
+      (c .before .before .before .nutation-terms .ensures i))
 
   abbrev sine-scaled : Mirror
   sine-scaled = lit (pos 25) ⊗ told sine-is (by-sine-small (arguments (n s₁)) (u (n s₁)) (u-small s₁) nutation-terms nutation-fits) tt
@@ -54,7 +58,13 @@ slice-aggregate-term-sums : tie.Need-slice-aggregate-term-sums
 slice-aggregate-term-sums c = search needs
 
 term-sums-requires : tie.Need-term-sums-requires
-term-sums-requires c κs = (c .before .before .before .before .pre .0, (subst⁻¹ Turns (c .before .before .before .arguments .ensures) (arguments-turn (n (c .before .before .before .before))), (asked (u-mirror (c .before .before .before .before)) tt, subst⁻¹ Summable (c .before .before .nutation-terms .ensures) nutation-fits)))
+term-sums-requires c κs = (
+  c .before .before .before .before .pre .0,
+  (
+    subst⁻¹ Turns (c .before .before .before .arguments .ensures) (arguments-turn (n (c .before .before .before .before))),
+    (asked (u-mirror (c .before .before .before .before)) tt, subst⁻¹ Summable (c .before .before .nutation-terms .ensures) nutation-fits),
+  ),
+)
 
 mul-floor-div : tie.Need-mul-floor-div
 mul-floor-div c = fits (sine-scaled (c .before .before)) tt
@@ -76,4 +86,6 @@ returns c = (
 )
 
 pub nutation-at-spec : {M : Type 1} → statement M
-nutation-at-spec = tie.close (tie.spec arguments-requires nutation-terms-requires slice-aggregate-term-sums term-sums-requires mul-floor-div floor-div-requires mul-floor-div-2 floor-div-requires-2 returns)
+nutation-at-spec =
+    tie.close (tie.spec arguments-requires nutation-terms-requires slice-aggregate-term-sums term-sums-requires mul-floor-div floor-div-requires
+    mul-floor-div-2 floor-div-requires-2 returns)

@@ -24,13 +24,20 @@ abbrev sum1 : tie.After-floor-div → Mirror
 sum1 c = lit (pos (84_381_448 * 250 / 9)) ⊕ floor-gave (kept (first-product (c .before .before .before)) tt) 360_000 (c .floor-div .ok) (c .floor-div .ensures)
 
 abbrev sum2 : tie.After-floor-div2 → Mirror
-sum2 c = kept (sum1 (c .before .before .before)) tt ⊕ floor-gave (kept (second-product (c .before .before .before .before .before .before)) tt) 36_000_000 (c .floor-div2 .ok) (c .floor-div2 .ensures)
+sum2 c =
+    kept (sum1 (c .before .before .before)) tt ⊕ floor-gave (kept (second-product (c .before .before .before .before .before .before)) tt) 36_000_000
+    (c .floor-div2 .ok) (c .floor-div2 .ensures)
 
 abbrev sum3 : tie.After-floor-div3 → Mirror
-sum3 c = kept (sum2 (c .before .before .before)) tt ⊕ floor-gave (kept (third-product (c .before .before .before .before .before .before .before .before .before)) tt) 3_600_000_000 (c .floor-div3 .ok) (c .floor-div3 .ensures)
+sum3 c =
+    kept (sum2 (c .before .before .before)) tt ⊕ floor-gave
+    (kept (third-product (c .before .before .before .before .before .before .before .before .before)) tt) 3_600_000_000 (c .floor-div3 .ok)
+    (c .floor-div3 .ensures)
 
 abbrev sum4 : tie.After-floor-div3 → Mirror
-sum4 c = kept (sum3 c) tt ⊕ arg (c .before .before .before .before .before .before .before .before .before .fits .nutation) (c .before .before .before .before .before .before .before .before .before .pre .1)
+sum4 c =
+    kept (sum3 c) tt ⊕ arg (c .before .before .before .before .before .before .before .before .before .fits .nutation)
+    (c .before .before .before .before .before .before .before .before .before .pre .1)
 
 mul-result : tie.Need-mul-result
 mul-result c = search needs
@@ -73,4 +80,6 @@ unfolding mean-obliquity
 returns c = kept (sum4 c) tt .same
 
 pub obliquity-at-spec : {M : Type 1} → statement M
-obliquity-at-spec = tie.close (tie.spec mul-result div-result mul-floor-div floor-div-requires add-result mul-floor-div-2 floor-div-requires-2 add-result-2 mul-floor-div-3 floor-div-requires-3 add-result-3 add-result-4 returns)
+obliquity-at-spec =
+    tie.close (tie.spec mul-result div-result mul-floor-div floor-div-requires add-result mul-floor-div-2 floor-div-requires-2 add-result-2
+    mul-floor-div-3 floor-div-requires-3 add-result-3 add-result-4 returns)

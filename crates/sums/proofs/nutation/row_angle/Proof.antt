@@ -58,13 +58,17 @@ array-copy-out-result-5 : tie.Need-array-copy-out-result-5
 array-copy-out-result-5 c = search needs
 
 cast-result-3 : tie.Need-cast-result-3
-cast-result-3 c = widened (column (c .before .before .before .before .before .args .t2) 2) (c .before .before .before .before .before .pre .1 .each 2 (leb→le 3 9 tt)) tt
+cast-result-3 c =
+    widened (column (c .before .before .before .before .before .args .t2) 2)
+    (c .before .before .before .before .before .pre .1 .each 2 (leb→le 3 9 tt)) tt
 
 array-copy-out-result-6 : tie.Need-array-copy-out-result-6
 array-copy-out-result-6 c = search needs
 
 mul-result-3 : tie.Need-mul-result-3
-mul-result-3 c = fits (product (c .before .before .before .before .before .before) 2 (c .before .before .before .before .before .before .pre .1 .each 2 (leb→le 3 9 tt))) tt
+mul-result-3 c =
+    fits (product (c .before .before .before .before .before .before) 2
+    (c .before .before .before .before .before .before .pre .1 .each 2 (leb→le 3 9 tt))) tt
 
 add-result-2 : tie.Need-add-result-2
 add-result-2 c = fits (sum3 (c .before .before .before .before .before .before)) tt
@@ -73,13 +77,17 @@ array-copy-out-result-7 : tie.Need-array-copy-out-result-7
 array-copy-out-result-7 c = search needs
 
 cast-result-4 : tie.Need-cast-result-4
-cast-result-4 c = widened (column (c .before .before .before .before .before .before .before .args .t2) 3) (c .before .before .before .before .before .before .before .pre .1 .each 3 (leb→le 4 9 tt)) tt
+cast-result-4 c =
+    widened (column (c .before .before .before .before .before .before .before .args .t2) 3)
+    (c .before .before .before .before .before .before .before .pre .1 .each 3 (leb→le 4 9 tt)) tt
 
 array-copy-out-result-8 : tie.Need-array-copy-out-result-8
 array-copy-out-result-8 c = search needs
 
 mul-result-4 : tie.Need-mul-result-4
-mul-result-4 c = fits (product (c .before .before .before .before .before .before .before .before) 3 (c .before .before .before .before .before .before .before .before .pre .1 .each 3 (leb→le 4 9 tt))) tt
+mul-result-4 c =
+    fits (product (c .before .before .before .before .before .before .before .before) 3
+    (c .before .before .before .before .before .before .before .before .pre .1 .each 3 (leb→le 4 9 tt))) tt
 
 add-result-3 : tie.Need-add-result-3
 add-result-3 c = fits (sum4 (c .before .before .before .before .before .before .before .before)) tt
@@ -88,13 +96,17 @@ array-copy-out-result-9 : tie.Need-array-copy-out-result-9
 array-copy-out-result-9 c = search needs
 
 cast-result-5 : tie.Need-cast-result-5
-cast-result-5 c = widened (column (c .before .before .before .before .before .before .before .before .before .args .t2) 4) (c .before .before .before .before .before .before .before .before .before .pre .1 .each 4 (leb→le 5 9 tt)) tt
+cast-result-5 c =
+    widened (column (c .before .before .before .before .before .before .before .before .before .args .t2) 4)
+    (c .before .before .before .before .before .before .before .before .before .pre .1 .each 4 (leb→le 5 9 tt)) tt
 
 array-copy-out-result-10 : tie.Need-array-copy-out-result-10
 array-copy-out-result-10 c = search needs
 
 mul-result-5 : tie.Need-mul-result-5
-mul-result-5 c = fits (product (c .before .before .before .before .before .before .before .before .before .before) 4 (c .before .before .before .before .before .before .before .before .before .before .pre .1 .each 4 (leb→le 5 9 tt))) tt
+mul-result-5 c =
+    fits (product (c .before .before .before .before .before .before .before .before .before .before) 4
+    (c .before .before .before .before .before .before .before .before .before .before .pre .1 .each 4 (leb→le 5 9 tt))) tt
 
 add-result-4 : tie.Need-add-result-4
 add-result-4 c = fits (sum5 (c .before .before .before .before .before .before .before .before .before .before)) tt
@@ -103,4 +115,8 @@ returns : tie.Need-returns
 returns c = kept (sum5 (c .before .before .before .before .before .before .before .before .before .before)) tt .same
 
 pub row-angle-spec : {M : Type 1} → statement M
-row-angle-spec = tie.close (tie.spec array-copy-out-result cast-result array-copy-out-result-2 mul-result array-copy-out-result-3 cast-result-2 array-copy-out-result-4 mul-result-2 add-result array-copy-out-result-5 cast-result-3 array-copy-out-result-6 mul-result-3 add-result-2 array-copy-out-result-7 cast-result-4 array-copy-out-result-8 mul-result-4 add-result-3 array-copy-out-result-9 cast-result-5 array-copy-out-result-10 mul-result-5 add-result-4 returns)
+row-angle-spec =
+    tie.close (tie.spec array-copy-out-result cast-result array-copy-out-result-2 mul-result array-copy-out-result-3 cast-result-2
+    array-copy-out-result-4 mul-result-2 add-result array-copy-out-result-5 cast-result-3 array-copy-out-result-6 mul-result-3 add-result-2
+    array-copy-out-result-7 cast-result-4 array-copy-out-result-8 mul-result-4 add-result-3 array-copy-out-result-9 cast-result-5
+    array-copy-out-result-10 mul-result-5 add-result-4 returns)

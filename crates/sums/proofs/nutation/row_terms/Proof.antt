@@ -87,7 +87,10 @@ cast-weight-2 : tie.Need-cast-weight-2
 cast-weight-2 c = widened (column (row (c .before .before .before)) 6) (small (c .before .before .before) .each 6 (leb→le 7 9 tt)) tt
 
 weight-requires : tie.Need-weight-requires
-weight-requires c κs = (asked (u-mirror (c .before .before .before)) tt, (asked (a-column (c .before .before .before)) tt, asked (b-column (c .before .before .before)) tt))
+weight-requires c κs = (
+  asked (u-mirror (c .before .before .before)) tt,
+  (asked (a-column (c .before .before .before)) tt, asked (b-column (c .before .before .before)) tt),
+)
 
 sine-in-requires : tie.Need-sine-in-requires
 sine-in-requires c κs = search needs
@@ -99,16 +102,27 @@ array-copy-out-weight-3 : tie.Need-array-copy-out-weight-3
 array-copy-out-weight-3 c = search needs
 
 cast-weight-3 : tie.Need-cast-weight-3
-cast-weight-3 c = widened (column (row (c .before .before .before .before .before .before)) 7) (small (c .before .before .before .before .before .before) .each 7 (leb→le 8 9 tt)) tt
+cast-weight-3 c =
+    widened (column (row (c .before .before .before .before .before .before)) 7)
+    (small (c .before .before .before .before .before .before) .each 7 (leb→le 8 9 tt)) tt
 
 array-copy-out-weight-4 : tie.Need-array-copy-out-weight-4
 array-copy-out-weight-4 c = search needs
 
 cast-weight-4 : tie.Need-cast-weight-4
-cast-weight-4 c = widened (column (row (c .before .before .before .before .before .before .before)) 8) (small (c .before .before .before .before .before .before .before) .each 8 (leb→le 9 9 tt)) tt
+cast-weight-4 c =
+    widened (column (row (c .before .before .before .before .before .before .before)) 8)
+    (small (c .before .before .before .before .before .before .before) .each 8 (leb→le 9 9 tt)) tt
 
 weight-requires-2 : tie.Need-weight-requires-2
-weight-requires-2 c κs = (asked (u-mirror (c .before .before .before .before .before .before .before)) tt, (asked (c-column (c .before .before .before .before .before .before .before)) tt, asked (d-column (c .before .before .before .before .before .before .before)) tt))
+weight-requires-2 c κs = (
+  asked (u-mirror (c .before .before .before .before .before .before .before)) tt,
+  (
+    asked (c-column (c .before .before .before .before .before .before .before)) tt,
+    asked
+        (d-column (c .before .before .before .before .before .before .before)) tt,
+  ),
+)
 
 cosine-term-requires : tie.Need-cosine-term-requires
 cosine-term-requires c κs = (c .before .before .before .before .before .before .before .before .pre .0, asked (cosine-weight c) tt)
@@ -120,4 +134,6 @@ returns c = (
 )
 
 pub row-terms-spec : {M : Type 1} → statement M
-row-terms-spec = tie.close (tie.spec row-angle-requires array-copy-out-weight cast-weight array-copy-out-weight-2 cast-weight-2 weight-requires sine-in-requires mul-sine array-copy-out-weight-3 cast-weight-3 array-copy-out-weight-4 cast-weight-4 weight-requires-2 cosine-term-requires returns)
+row-terms-spec =
+    tie.close (tie.spec row-angle-requires array-copy-out-weight cast-weight array-copy-out-weight-2 cast-weight-2 weight-requires sine-in-requires
+    mul-sine array-copy-out-weight-3 cast-weight-3 array-copy-out-weight-4 cast-weight-4 weight-requires-2 cosine-term-requires returns)

@@ -111,4 +111,6 @@ returns c =
     )
 
 pub term-sums-spec : {M : Type 1} → statement M
-term-sums-spec = tie.close (tie.spec Inv-loop μ-loop loop-holds mul-row-terms shared-slice-copy-out-row-terms row-terms-requires add-sine add-cosine add-i loop-less loop-again returns)
+term-sums-spec =
+    tie.close (tie.spec Inv-loop μ-loop loop-holds mul-row-terms shared-slice-copy-out-row-terms row-terms-requires add-sine add-cosine add-i
+    loop-less loop-again returns)

@@ -30,10 +30,15 @@ abbrev sum1 : tie.After-mul-div → Mirror
 sum1 c = lit (pos 28_046_061_837) ⊕ turned c
 
 abbrev sum2 : tie.After-floor-div → Mirror
-sum2 c = kept (sum1 (c .before .before .before)) tt ⊕ floor-gave (kept (second-product (c .before .before .before .before .before)) tt) 10_000_000 (c .floor-div .ok) (c .floor-div .ensures)
+sum2 c =
+    kept (sum1 (c .before .before .before)) tt ⊕ floor-gave (kept (second-product (c .before .before .before .before .before)) tt) 10_000_000
+    (c .floor-div .ok) (c .floor-div .ensures)
 
 abbrev sum3 : tie.After-floor-div2 → Mirror
-sum3 c = kept (sum2 (c .before .before .before)) tt ⊕ floor-gave (kept (third-product (c .before .before .before .before .before .before .before .before)) tt) 38_710_000 (c .floor-div2 .ok) (c .floor-div2 .ensures)
+sum3 c =
+    kept (sum2 (c .before .before .before)) tt ⊕ floor-gave
+    (kept (third-product (c .before .before .before .before .before .before .before .before)) tt) 38_710_000 (c .floor-div2 .ok)
+    (c .floor-div2 .ensures)
 
 mul-mul-div : tie.Need-mul-mul-div
 mul-mul-div c = search needs
@@ -70,4 +75,6 @@ unfolding mean
 returns c = c .new .ensures ∙ ap reduced (kept (sum3 (c .before)) tt .same)
 
 pub mean-at-spec : {M : Type 1} → statement M
-mean-at-spec = tie.close (tie.spec mul-mul-div mul-div-requires mul-floor-div floor-div-requires mul-floor-div-2 floor-div-requires-2 add-new add-new-2 add-new-3 new-requires returns)
+mean-at-spec =
+    tie.close (tie.spec mul-mul-div mul-div-requires mul-floor-div floor-div-requires mul-floor-div-2 floor-div-requires-2 add-new add-new-2 add-new-3
+    new-requires returns)

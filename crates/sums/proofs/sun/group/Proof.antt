@@ -54,7 +54,13 @@ shared-slice-copy-out-row-value : tie.Need-shared-slice-copy-out-row-value Inv-l
 shared-slice-copy-out-row-value c = search needs
 
 row-value-requires : tie.Need-row-value-requires Inv-loop μ-loop
-row-value-requires c κs = (c .before .before .before .pre .0, (handed (c .before .before .before .fits .n) (c .before .before .before .pre .1 .0), c .before .before .before .pre .1 .1 .each (c .before .before .loop .i) (c .before .loop-test .taken)))
+row-value-requires c κs = (
+  c .before .before .before .pre .0,
+  (
+    handed (c .before .before .before .fits .n) (c .before .before .before .pre .1 .0),
+    c .before .before .before .pre .1 .1 .each (c .before .before .loop .i) (c .before .loop-test .taken),
+  ),
+)
 
 add-sum : tie.Need-add-sum Inv-loop μ-loop
 add-sum c =
@@ -82,4 +88,6 @@ returns c =
     ∙ ap (λ (z : ℤ). group z (s .args .rows .now)) (any (s .fits .n) .same)
 
 pub group-spec : {M : Type 1} → statement M
-group-spec = tie.close (tie.spec Inv-loop μ-loop loop-holds mul-row-value shared-slice-copy-out-row-value row-value-requires add-sum add-i loop-less loop-again returns)
+group-spec =
+    tie.close (tie.spec Inv-loop μ-loop loop-holds mul-row-value shared-slice-copy-out-row-value row-value-requires add-sum add-i loop-less
+    loop-again returns)

@@ -22,7 +22,9 @@ group-mirror c =
     (le-trans (group-most n (s .args .rows .now)) (s .pre .1 .1 .0 .all))
 
 abbrev sum : tie.After-floor-div → Mirror
-sum c = group-mirror (c .before .before .before) ⊕ floor-gave (kept (product (c .before .before .before .before .before)) tt) 10_000_000 (c .floor-div .ok) (c .floor-div .ensures)
+sum c =
+    group-mirror (c .before .before .before) ⊕ floor-gave (kept (product (c .before .before .before .before .before)) tt) 10_000_000
+    (c .floor-div .ok) (c .floor-div .ensures)
 
 group-requires : tie.Need-group-requires
 group-requires c κs = search needs

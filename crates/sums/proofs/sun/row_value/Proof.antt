@@ -25,10 +25,14 @@ module _ (s : tie.Start) where
   constant = lit (pos 100) ⊗ from-nat {n = row-A row} (small .constant) tt
 
 angle-is : (c : tie.After-row-angle) → c .row-angle .result ≡ row-angle (c .before .before .args .n) (row-B (row (c .before .before))) (row-C (row (c .before .before)))
-angle-is c = c .row-angle .ensures ∙ ap (λ (z : ℤ). row-angle z (row-B (row (c .before .before))) (row-C (row (c .before .before)))) (any (c .before .before .fits .n) .same)
+angle-is c =
+    c .row-angle .ensures ∙ ap (λ (z : ℤ). row-angle z (row-B (row (c .before .before))) (row-C (row (c .before .before))))
+    (any (c .before .before .fits .n) .same)
 
 angle-small : (c : tie.After-row-angle) → c .row-angle .result ≤ full-turn
-angle-small c = subst⁻¹ (λ (a : ℕ). a ≤ full-turn) (angle-is c) (row-angle-small (c .before .before .args .n) (row-B (row (c .before .before))) (row-C (row (c .before .before))))
+angle-small c =
+    subst⁻¹ (λ (a : ℕ). a ≤ full-turn) (angle-is c)
+    (row-angle-small (c .before .before .args .n) (row-B (row (c .before .before))) (row-C (row (c .before .before))))
 
 abbrev product : tie.After-cosine-in → Mirror
 product c =
@@ -81,4 +85,6 @@ unfolding row-value
 returns-2 c = floor-gave (kept (product (c .before)) tt) 10_000_000 (c .floor-div .ok) (c .floor-div .ensures) .same
 
 pub row-value-spec : {M : Type 1} → statement M
-row-value-spec = tie.close (tie.spec array-read-a array-read-b array-read-c add-if1 cast-result mul-result cast-floor-div row-angle-requires cast-cosine-in cosine-in-requires mul-floor-div floor-div-requires returns returns-2)
+row-value-spec =
+    tie.close (tie.spec array-read-a array-read-b array-read-c add-if1 cast-result mul-result cast-floor-div row-angle-requires
+    cast-cosine-in cosine-in-requires mul-floor-div floor-div-requires returns returns-2)
