@@ -1,4 +1,6 @@
 // The functions that C and Rust call, each a few lines over the library.
+pub mod instants;
+
 use numbers::calendar::DayCount;
 ghost use mathlib.Core.Path.{_≡_};
 ghost use Rattle.numbers.specs.Sine.{sine, cosine};

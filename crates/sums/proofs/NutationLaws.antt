@@ -11,13 +11,13 @@ use Rattle.arithmetic.proofs.Sizes.{add-bound, mul-bound}
 use Rattle.numbers.specs.Angle.{full-turn}
 use Rattle.numbers.specs.Sine.{cosine, sine}
 use Rattle.numbers.proofs.SineSize.{cosine-most, sine-most}
-use Rattle.sums.specs.Instant.{u}
+use Rattle.sums.specs.Instant.{furthest, u}
 use Rattle.sums.specs.MoonRange.{Turns}
-use Rattle.sums.specs.Nutation.{arguments, cosine-term, row-angle, sine-term, weight}
+use Rattle.sums.specs.Nutation.{arguments, cosine-term, row-angle, sine-term, weight, Δε, Δψ}
 use Rattle.sums.specs.NutationRange.{Summable, spread}
 use Rattle.sums.specs.NutationTerms.{X0, X1, X2, X3, X4, nutation-terms}
 use Rattle.sums.specs.Table.{column, count, total}
-use Rattle.sums.proofs.InstantLaws.{value-small}
+use Rattle.sums.proofs.InstantLaws.{floor-size, u-most, value-small}
 use Rattle.sums.proofs.TableLaws.{bounded-rows, bounded-test, total-size}
 
 -- a weight is at most 10 a and 2 b, and one
@@ -76,3 +76,20 @@ nutation-fits = record {
   by-sine = leb→le (count (spread 5 6) nutation-terms) (2 ^ 57) tt;
   by-cosine = leb→le (count (spread 7 8) nutation-terms) (2 ^ 57) tt;
 }
+
+-- the nutation itself, within reach
+module _ (n : ℤ) (h : natAbs n ≤ furthest) where
+  u-small : natAbs (u n) ≤ 2 ^ 20
+  u-small = le-trans (u-most n h) (leb→le 1_011_001 (2 ^ 20) tt)
+
+  pub Δψ-most : natAbs (Δψ n) ≤ 2 ^ 26
+  unfolding Δψ
+  Δψ-most =
+      let sum = total (sine-term (arguments n) (u n)) nutation-terms in
+      floor-size (pos 25 *ℤ sum) 90_000_000_000 (mul-bound (pos 25) sum (le-refl 25) (by-sine-small (arguments n) (u n) u-small nutation-terms nutation-fits)) tt
+
+  pub Δε-most : natAbs (Δε n) ≤ 2 ^ 26
+  unfolding Δε
+  Δε-most =
+      let sum = total (cosine-term (arguments n) (u n)) nutation-terms in
+      floor-size (pos 25 *ℤ sum) 90_000_000_000 (mul-bound (pos 25) sum (le-refl 25) (by-cosine-small (arguments n) (u n) u-small nutation-terms nutation-fits)) tt

@@ -1,9 +1,11 @@
 // Instants in units of time from noon of 2000-01-01, their powers, and polynomials in them.
 use numbers::angle::Angle;
+use numbers::whole::absolute;
 use numbers::whole::floor_div;
 use numbers::whole::mul_div;
 ghost use mathlib.Core.Path.{_≡_};
 ghost use Prim.Native.Nat.{_≤_, _^_};
+ghost use lib.Dec.{leb};
 ghost use lib.IntN.{pos, natAbs};
 ghost use Rattle.sums.specs.Instant.{universal-time, terrestrial-time, Accepted, furthest, powers, value, Suits, Reached};
 
@@ -14,6 +16,9 @@ pub const DAY: u64 = 86_400 * SECOND;
 
 // A Julian century.
 pub const CENTURY: u64 = 36_525 * DAY;
+
+// No accepted instant lies further away.
+pub const FURTHEST: u64 = CENTURY * 1011 / 1000;
 
 // c0 + c1 T + c2 T² + s3 T³/k3 + s4 T⁴/k4.
 pub struct Polynomial {
@@ -55,6 +60,13 @@ pub fn terrestrial_time(ut: i64, delta: i64) -> i64
     ensures { λ r. ⌜ r ≡ terrestrial-time ut delta ⌝ }
 {
     ut + delta
+}
+
+// Any instant may be asked for; the sums are for those within reach.
+pub fn is_within_reach(n: i64) -> bool
+    ensures { λ r. ⌜ r ≡ leb (natAbs n) furthest ⌝ }
+{
+    absolute(n) <= FURTHEST
 }
 
 // An accepted instant, from its day, the units of the day (and a batch's offset), UT1 minus UTC and delta-T.
