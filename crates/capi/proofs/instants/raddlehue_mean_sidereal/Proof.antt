@@ -1,9 +1,8 @@
 -- `capi::instants::raddlehue_mean_sidereal` meets its contract.
-use mathlib.Core.Path.{_∙_, _≡_, ap, sym}
+use mathlib.Core.Path.{_∙_, ap, sym}
 use borrow.Author.Needs.{needs}
 use borrow.Author.Tests.{leb-true}
 use Rattle.numbers.proofs.Machine.{any}
-use Rattle.sums.specs.Instant.{powers}
 use Rattle.sums.specs.Sidereal.{mean}
 use Rattle.sums.specs.declared.instant.Powers.{Powers}
 use Rattle.sums.proofs.InstantLaws.{reached}

@@ -2,12 +2,12 @@
 use mathlib.Core.Path.{_∙_, _≡_, ap, sym}
 use Prim.Native.Nat.{_≤_}
 use lib.IntN.{_+ℤ_, natAbs, ℤ}
-use borrow.Author.Needs.{needs}
-use borrow.Author.Tests.{leb-true}
 use mir.Syntax.{w64}
 use mir.Val.{ofZ, toZ}
+use borrow.Author.Needs.{needs}
+use borrow.Author.Tests.{leb-true}
 use Rattle.numbers.proofs.Machine.{Mirror, any, passed, told}
-use Rattle.sums.specs.Instant.{furthest, powers}
+use Rattle.sums.specs.Instant.{furthest}
 use Rattle.sums.specs.Nutation.{mean-obliquity, obliquity, Δε, Δψ}
 use Rattle.sums.specs.declared.instant.Powers.{Powers}
 use Rattle.sums.proofs.InstantLaws.{reached}

@@ -2,7 +2,7 @@
 use mathlib.Core.Path.{_∙_, ap}
 use Prim.Native.Nat.{ℕ}
 use lib.Dec.{leb}
-use lib.IntN.{natAbs, ℤ}
+use lib.IntN.{natAbs}
 use borrow.Author.Needs.{needs}
 use Rattle.numbers.proofs.Machine.{any}
 use Rattle.sums.specs.Instant.{furthest}
