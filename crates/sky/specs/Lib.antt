@@ -1,0 +1,6 @@
+pub mod Product
+pub mod Vector
+pub mod Observer
+pub mod Horizon
+pub mod Place
+pub mod SkyRange

@@ -1,0 +1,83 @@
+// Up, north and east, and the azimuth and the elevation that they make.
+use super::product::products_added;
+use super::product::products_subtracted;
+use super::vector::Vector;
+use numbers::arctangent::arctangent;
+use numbers::root::root;
+use numbers::sine::SineCosine;
+ghost use mathlib.Core.Path.{_≡_};
+ghost use Prim.Native.Nat.{_≤_};
+ghost use lib.IntN.{natAbs};
+ghost use Rattle.numbers.specs.Angle.{full-turn};
+ghost use Rattle.sky.specs.Horizon.{horizon, azimuth, lowered, clamped, elevation};
+ghost use Rattle.sky.specs.SkyRange.{OneAngle, Within, Seen};
+
+pub struct Horizon {
+    pub up: i64,
+    pub north: i64,
+    pub east: i64,
+}
+
+// At a latitude.
+pub fn horizon_at(latitude: SineCosine, v: Vector) -> Horizon
+    requires { ⌜ OneAngle latitude × Within 2_900_000_000 v ⌝ }
+    ensures { λ r. ⌜ r ≡ horizon latitude v ⌝ }
+{
+    let s = latitude.sine;
+    let c = latitude.cosine;
+    let x = v.x;
+    let east = v.y;
+    let z = v.z;
+    Horizon {
+        up: products_added(x, c, z, s),
+        north: products_subtracted(z, c, x, s),
+        east,
+    }
+}
+
+pub fn azimuth(h: Horizon) -> i64
+    requires { ⌜ Seen h ⌝ }
+    ensures { λ r. ⌜ r ≡ azimuth h ⌝ }
+{
+    let n = h.north;
+    let e = h.east;
+    let a = arctangent(e, n).units;
+    a as i64
+}
+
+// Less a whole turn from 180 degrees up.
+fn lowered(a: i64) -> i64
+    requires { ⌜ natAbs a ≤ full-turn ⌝ }
+    ensures { λ r. ⌜ r ≡ lowered a ⌝ }
+{
+    if a >= 18_000_000_000 {
+        a - 36_000_000_000
+    } else {
+        a
+    }
+}
+
+// Kept within 90 degrees of the horizon.
+fn clamped(e: i64) -> i64
+    ensures { λ r. ⌜ r ≡ clamped e ⌝ }
+{
+    if e > 9_000_000_000 {
+        9_000_000_000
+    } else if e < -9_000_000_000 {
+        -9_000_000_000
+    } else {
+        e
+    }
+}
+
+pub fn elevation(h: Horizon) -> i64
+    requires { ⌜ Seen h ⌝ }
+    ensures { λ r. ⌜ r ≡ elevation h ⌝ }
+{
+    let up = h.up;
+    let n = h.north;
+    let e = h.east;
+    let level = root((n * n) as u64 + (e * e) as u64);
+    let a = arctangent(up, level as i64).units;
+    clamped(lowered(a as i64))
+}

@@ -1,0 +1,6 @@
+// The sky: a body's place from a point on Earth.
+pub mod horizon;
+pub mod observer;
+pub mod place;
+pub mod product;
+pub mod vector;

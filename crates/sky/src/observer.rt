@@ -1,0 +1,52 @@
+// Where the runner stands on the flattened Earth.
+use super::vector::Vector;
+use numbers::arctangent::arctangent;
+use numbers::sine::SineCosine;
+use numbers::sine::sine_cosine_in;
+use numbers::whole::floor_div;
+ghost use mathlib.Core.Path.{_≡_};
+ghost use Prim.Native.Nat.{_≤_};
+ghost use lib.IntN.{natAbs};
+ghost use Rattle.numbers.specs.SineTable.{sines};
+ghost use Rattle.sky.specs.Observer.{observer, shifted};
+ghost use Rattle.sky.specs.SkyRange.{OneAngle, Within, Near};
+
+// The distances from the Earth's axis and from the equator's plane.
+pub struct Observer {
+    pub f: i64,
+    pub g: i64,
+}
+
+// At a latitude, and at a height in metres.
+pub fn observer_at(table: &[u32; 361], latitude: SineCosine, height: i64) -> Observer
+    requires { ⌜ (now table ≡ sines) × OneAngle latitude × (natAbs height ≤ 9_000) ⌝ }
+    ensures { λ r. ⌜ r ≡ observer latitude height ⌝ }
+{
+    let s = latitude.sine;
+    let c = latitude.cosine;
+    let y = floor_div(99_664_719 * s, 100_000_000);
+    let a = arctangent(y, c).units;
+    let w = sine_cosine_in(table, a as i64);
+    let ws = w.sine;
+    let wc = w.cosine;
+    let f = wc + floor_div(height * c, 6_378_140);
+    let g = floor_div(99_664_719 * ws, 100_000_000) + floor_div(height * s, 6_378_140);
+    Observer { f, g }
+}
+
+// The vector less the parallax p times the observer's distances.
+pub fn shifted(p: i64, o: Observer, v: Vector) -> Vector
+    requires { ⌜ (natAbs p ≤ 20_000_000) × Near o × Within 2_900_000_000 v ⌝ }
+    ensures { λ r. ⌜ r ≡ shifted p o v ⌝ }
+{
+    let f = o.f;
+    let g = o.g;
+    let x = v.x;
+    let y = v.y;
+    let z = v.z;
+    Vector {
+        x: x - floor_div(p * f, 1_000_000_000),
+        y,
+        z: z - floor_div(p * g, 1_000_000_000),
+    }
+}
