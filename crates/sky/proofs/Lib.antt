@@ -1,0 +1,2 @@
+pub mod SkySizes
+pub mod SkyMirror

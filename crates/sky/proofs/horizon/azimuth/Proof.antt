@@ -1,21 +1,27 @@
+-- `sky::horizon::azimuth` meets its contract.
 use borrow.Author.Needs.{needs}
+use Rattle.numbers.proofs.Machine.{Mirror}
+use Rattle.sky.specs.Horizon.{azimuth}
+use Rattle.sky.proofs.SkyMirror.{angle-fits, angle-gave, field}
 use Rattle.sky.proofs.horizon.azimuth.Statement.{statement}
 use Rattle.sky.proofs.horizon.azimuth.Tie as tie
-use Rattle.sky.proofs.horizon.azimuth.Reads as reads
-use Rattle.sky.proofs.horizon.azimuth.Lts as lts
-use Rattle.numbers.proofs.arctangent.arctangent.Reads as arctangent-reads
 
--- src/horizon.rt:44:13
+module _ (k : tie.After-struct-told2) where
+  abbrev east : Mirror
+  east = field (k .before .before .args .h .east) (k .before .before .pre .east-size) tt
+
+  abbrev north : Mirror
+  north = field (k .before .before .args .h .north) (k .before .before .pre .north-size) tt
+
 arctangent-requires : tie.Need-arctangent-requires
 arctangent-requires c κs = search needs
 
--- src/horizon.rt:45:5
 cast-result : tie.Need-cast-result
-cast-result c = ?
+cast-result c = angle-fits (east (c .before)) (north (c .before)) (c .arctangent .ensures)
 
--- src/horizon.rt:38:1
 returns : tie.Need-returns
-returns c = ?
+unfolding azimuth
+returns c = angle-gave (east (c .before)) (north (c .before)) (c .arctangent .ensures) .same
 
 pub azimuth-spec : {M : Type 1} → statement M
 azimuth-spec = tie.close (tie.spec arctangent-requires cast-result returns)

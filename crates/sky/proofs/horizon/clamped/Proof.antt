@@ -1,19 +1,32 @@
+-- `sky::horizon::clamped` meets its contract.
+use mathlib.Core.Path.{_≡_, subst}
+use mathlib.Core.Bool.{true, false}
+use lib.IntN.{ℤ, pos, negℤ}
+use lib.Signed.{ltZ}
+use Rattle.numbers.specs.Angle.{quarter-turn}
+use Rattle.numbers.proofs.Machine.{Mirror, any}
+use Rattle.sky.specs.Horizon.{clamped}
 use Rattle.sky.proofs.horizon.clamped.Statement.{statement}
 use Rattle.sky.proofs.horizon.clamped.Tie as tie
-use Rattle.sky.proofs.horizon.clamped.Reads as reads
-use Rattle.sky.proofs.horizon.clamped.Lts as lts
 
--- src/horizon.rt:61:1
+abbrev e : tie.Start → Mirror
+e a = any (a .fits .e)
+
 returns : tie.Need-returns
-returns c = ?
+unfolding clamped
+returns c = rw (subst (λ (z : ℤ). ltZ (pos quarter-turn) z ≡ true) (e (c .before) .same) (c .if1 .taken))
 
--- src/horizon.rt:61:1
 returns-2 : tie.Need-returns-2
-returns-2 c = ?
+unfolding clamped
+returns-2 c =
+    let s = e (c .before .before) .same in
+    rw (subst (λ (z : ℤ). ltZ (pos quarter-turn) z ≡ false) s (c .before .if1 .left), subst (λ (z : ℤ). ltZ z (negℤ (pos quarter-turn)) ≡ true) s (c .if2 .taken))
 
--- src/horizon.rt:61:1
 returns-3 : tie.Need-returns-3
-returns-3 c = ?
+unfolding clamped
+returns-3 c =
+    let s = e (c .before .before) .same in
+    rw (subst (λ (z : ℤ). ltZ (pos quarter-turn) z ≡ false) s (c .before .if1 .left), subst (λ (z : ℤ). ltZ z (negℤ (pos quarter-turn)) ≡ false) s (c .if2 .left)) s
 
 pub clamped-spec : {M : Type 1} → statement M
 clamped-spec = tie.close (tie.spec returns returns-2 returns-3)

@@ -1,60 +1,123 @@
+-- `sky::horizon::elevation` meets its contract. The two squares, each at most 9·10¹⁸, fit 64 unsigned bits together.
+use mathlib.Core.Path.{_≡_, refl, sym, ap, ap₂, subst, _∙_}
+use Prim.Native.Nat.{ℕ, _+_, _^_, _≤_}
+use native.Mathlib.Omega.{arith}
 use borrow.Author.Needs.{needs}
+use lib.IntN.{ℤ, pos, natAbs, _+ℤ_, _*ℤ_}
+use mir.Syntax.{w64}
+use mir.Val.{Fits, SFits, toZ}
+use mir.ValLaws.{toZ-pos}
+use Rattle.numbers.proofs.Machine.{Mirror, fits, kept, passed, nat-fits, _⊗_}
+use Rattle.sums.proofs.NarrowMirror.{asked}
+use Rattle.numbers.specs.Root.{root}
+use Rattle.numbers.proofs.RootLaws.{root-most}
+use Rattle.sky.specs.declared.horizon.Horizon.{Horizon}
+use Rattle.sky.specs.Horizon.{elevation, level, lowered, clamped}
+use Rattle.sky.specs.SkyRange.{Seen}
+use Rattle.sky.proofs.SkyMirror.{field, angle-fits, angle-gave, square-is, square-most, square-cast}
 use Rattle.sky.proofs.horizon.elevation.Statement.{statement}
 use Rattle.sky.proofs.horizon.elevation.Tie as tie
-use Rattle.sky.proofs.horizon.elevation.Reads as reads
-use Rattle.sky.proofs.horizon.elevation.Lts as lts
-use Rattle.numbers.proofs.arctangent.arctangent.Reads as arctangent-reads
-use Rattle.numbers.proofs.root.root.Reads as root-reads
-use Rattle.sky.proofs.horizon.clamped.Reads as clamped-reads
-use Rattle.sky.proofs.horizon.lowered.Reads as lowered-reads
 
--- src/horizon.rt:80:23
+module _ (h : Horizon) (s : Seen h) where
+  abbrev up : Mirror
+  up = field (h .up) (s .up-size) tt
+
+  abbrev n : Mirror
+  n = field (h .north) (s .north-size) tt
+
+  abbrev e : Mirror
+  e = field (h .east) (s .east-size) tt
+
+  abbrev nn : Mirror
+  nn = kept (n ⊗ n) tt
+
+  abbrev ee : Mirror
+  ee = kept (e ⊗ e) tt
+
+  sum-fits : Fits w64 (natAbs (nn .machine) + natAbs (ee .machine))
+  sum-fits = rw (nn .same, ee .same) (record { fits = omega (arith, square-most n tt, square-most e tt) })
+
+  -- both squares are above zero, so their sizes add
+  sum-is : natAbs (nn .machine) + natAbs (ee .machine) ≡ natAbs (h .north *ℤ h .north +ℤ h .east *ℤ h .east)
+  sum-is =
+      ap₂ (λ (x y : ℤ). natAbs x + natAbs y) (nn .same ∙ square-is (h .north)) (ee .same ∙ square-is (h .east))
+      ∙ ap₂ (λ (x y : ℤ). natAbs (x +ℤ y)) (sym (square-is (h .north))) (sym (square-is (h .east)))
+
+  module _ {r : ℕ} (g : r ≡ root (natAbs (nn .machine) + natAbs (ee .machine))) where
+    small : r ≤ 4_294_967_295
+    small = rw g (root-most (natAbs (nn .machine) + natAbs (ee .machine)) 4_294_967_295 (omega (arith, sum-fits)))
+
+    flat-fits : SFits w64 (pos r)
+    flat-fits = nat-fits small tt
+
+    flat-is : pos r ≡ level h
+    unfolding level
+    flat-is = ap pos (g ∙ ap root sum-is)
+
+    abbrev flat : Mirror
+    flat =
+        record {
+          machine = toZ w64 r;
+          number = level h;
+          most = 4_294_967_295;
+          same = toZ-pos w64 r (flat-fits .sfits) ∙ flat-is;
+          bound = subst (λ (z : ℤ). natAbs z ≤ 4_294_967_295) flat-is small;
+        }
+
+abbrev start : tie.After-struct-told3 → tie.Start
+start k = k .before .before .before
+
 mul-root : tie.Need-mul-root
-mul-root c = ?
+mul-root c = let a = start c in fits (n (a .args .h) (a .pre) ⊗ n (a .args .h) (a .pre)) tt
 
--- src/horizon.rt:80:22
 cast-root : tie.Need-cast-root
-cast-root c = ?
+cast-root c = let a = start c in square-cast (n (a .args .h) (a .pre)) tt (nn (a .args .h) (a .pre) .same)
 
--- src/horizon.rt:80:40
 mul-root-2 : tie.Need-mul-root-2
-mul-root-2 c = ?
+mul-root-2 c = let a = start c in fits (e (a .args .h) (a .pre) ⊗ e (a .args .h) (a .pre)) tt
 
--- src/horizon.rt:80:39
 cast-root-2 : tie.Need-cast-root-2
-cast-root-2 c = ?
+cast-root-2 c = let a = start c in square-cast (e (a .args .h) (a .pre)) tt (ee (a .args .h) (a .pre) .same)
 
--- src/horizon.rt:80:22
 add-root : tie.Need-add-root
-add-root c = ?
+add-root c = sum-fits (start c .args .h) (start c .pre)
 
--- src/horizon.rt:80:9
 root-requires : tie.Need-root-requires
 root-requires c κs = search needs
 
--- src/horizon.rt:81:28
-cast-arctangent : tie.Need-cast-arctangent
-cast-arctangent c = ?
+module _ (c : tie.After-root) where
+  abbrev a : tie.Start
+  a = start (c .before)
 
--- src/horizon.rt:81:13
+  abbrev top : Mirror
+  top = up (a .args .h) (a .pre)
+
+  abbrev distance : Mirror
+  distance = flat (a .args .h) (a .pre) (c .root .ensures)
+
+cast-arctangent : tie.Need-cast-arctangent
+cast-arctangent c = flat-fits (a c .args .h) (a c .pre) (c .root .ensures)
+
 arctangent-requires : tie.Need-arctangent-requires
 arctangent-requires c κs = search needs
 
--- src/horizon.rt:82:21
+abbrev angle : tie.After-arctangent → Mirror
+angle c = angle-gave (top (c .before)) (distance (c .before)) (c .arctangent .ensures)
+
 cast-lowered : tie.Need-cast-lowered
-cast-lowered c = ?
+cast-lowered c = angle-fits (top (c .before)) (distance (c .before)) (c .arctangent .ensures)
 
--- src/horizon.rt:82:13
 lowered-requires : tie.Need-lowered-requires
-lowered-requires c κs = ?
+lowered-requires c κs = asked (angle c) tt
 
--- src/horizon.rt:82:5
 clamped-requires : tie.Need-clamped-requires
 clamped-requires c κs = search needs
 
--- src/horizon.rt:73:1
 returns : tie.Need-returns
-returns c = ?
+unfolding elevation
+returns c =
+    passed (c .clamped .ok)
+    (c .clamped .ensures ∙ ap clamped (passed (c .before .lowered .ok) (c .before .lowered .ensures ∙ ap lowered (angle (c .before .before) .same))))
 
 pub elevation-spec : {M : Type 1} → statement M
 elevation-spec =

@@ -1,21 +1,44 @@
+-- `sky::horizon::horizon_at` meets its contract.
+use Rattle.numbers.proofs.Machine.{Mirror}
+use Rattle.sky.specs.Horizon.{horizon}
+use Rattle.sky.proofs.SkyMirror.{sine-in, cosine-in, x-in, y-in, z-in, products, gave-added, gave-subtracted}
 use Rattle.sky.proofs.horizon.horizon_at.Statement.{statement}
 use Rattle.sky.proofs.horizon.horizon_at.Tie as tie
-use Rattle.sky.proofs.horizon.horizon_at.Reads as reads
-use Rattle.sky.proofs.horizon.horizon_at.Lts as lts
-use Rattle.sky.proofs.product.products_added.Reads as products-added-reads
-use Rattle.sky.proofs.product.products_subtracted.Reads as products-subtracted-reads
 
--- src/horizon.rt:32:13
+module _ (a : tie.Start) where
+  abbrev s : Mirror
+  s = sine-in (a .pre .0)
+
+  abbrev c : Mirror
+  c = cosine-in (a .pre .0)
+
+  abbrev x : Mirror
+  x = x-in (a .pre .1) tt
+
+  abbrev y : Mirror
+  y = y-in (a .pre .1) tt
+
+  abbrev z : Mirror
+  z = z-in (a .pre .1) tt
+
+abbrev start : tie.After-struct-told5 → tie.Start
+start k = k .before .before .before .before .before
+
 products-added-requires : tie.Need-products-added-requires
-products-added-requires c κs = ?
+products-added-requires k κs = let a = start k in products (x a) (c a) (z a) (s a) tt
 
--- src/horizon.rt:33:16
 products-subtracted-requires : tie.Need-products-subtracted-requires
-products-subtracted-requires c κs = ?
+products-subtracted-requires k κs = let a = start (k .before) in products (z a) (c a) (x a) (s a) tt
 
--- src/horizon.rt:22:1
 returns : tie.Need-returns
-returns c = ?
+unfolding horizon
+returns k =
+    let a = start (k .before .before) in
+    λ i. record {
+      up = gave-added (x a) (c a) (z a) (s a) (k .before .products-added .ok) (k .before .products-added .ensures) i;
+      north = gave-subtracted (z a) (c a) (x a) (s a) (k .products-subtracted .ok) (k .products-subtracted .ensures) i;
+      east = y a .same i;
+    }
 
 pub horizon-at-spec : {M : Type 1} → statement M
 horizon-at-spec = tie.close (tie.spec products-added-requires products-subtracted-requires returns)

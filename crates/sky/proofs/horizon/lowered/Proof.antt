@@ -1,19 +1,29 @@
+-- `sky::horizon::lowered` meets its contract.
+use mathlib.Core.Path.{_≡_, subst}
+use mathlib.Core.Bool.{true, false}
+use lib.IntN.{ℤ, pos}
+use lib.Signed.{leZ}
+use Rattle.numbers.specs.Angle.{full-turn, half-turn}
+use Rattle.numbers.proofs.Machine.{Mirror, arg, lit, fits, kept, _⊖_}
+use Rattle.sky.specs.Horizon.{lowered}
 use Rattle.sky.proofs.horizon.lowered.Statement.{statement}
 use Rattle.sky.proofs.horizon.lowered.Tie as tie
-use Rattle.sky.proofs.horizon.lowered.Reads as reads
-use Rattle.sky.proofs.horizon.lowered.Lts as lts
 
--- src/horizon.rt:54:9
+abbrev a : tie.Start → Mirror
+a s = arg (s .fits .a) (s .pre)
+
 sub-result : tie.Need-sub-result
-sub-result c = ?
+sub-result c = fits (a (c .before) ⊖ lit (pos full-turn)) tt
 
--- src/horizon.rt:49:1
 returns : tie.Need-returns
-returns c = ?
+unfolding lowered
+returns c =
+    rw (subst (λ (z : ℤ). leZ (pos half-turn) z ≡ true) (a (c .before) .same) (c .if1 .taken))
+    (kept (a (c .before) ⊖ lit (pos full-turn)) tt .same)
 
--- src/horizon.rt:49:1
 returns-2 : tie.Need-returns-2
-returns-2 c = ?
+unfolding lowered
+returns-2 c = rw (subst (λ (z : ℤ). leZ (pos half-turn) z ≡ false) (a (c .before) .same) (c .if1 .left)) (a (c .before) .same)
 
 pub lowered-spec : {M : Type 1} → statement M
 lowered-spec = tie.close (tie.spec sub-result returns returns-2)

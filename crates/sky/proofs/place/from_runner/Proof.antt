@@ -1,45 +1,73 @@
+-- `sky::place::from_runner` meets its contract: each call's equation, put into the next.
+use mathlib.Core.Path.{_∙_, _≡_, ap, ap₂, refl, subst⁻¹}
 use borrow.Author.Needs.{needs}
+use Rattle.numbers.proofs.Machine.{Mirror, passed}
+use Rattle.sums.proofs.NarrowMirror.{asked}
+use Rattle.sky.specs.Horizon.{horizon}
+use Rattle.sky.specs.Observer.{observer, shifted}
+use Rattle.sky.specs.Place.{from-runner}
+use Rattle.sky.specs.Product.{sine-cosine}
+use Rattle.sky.specs.SkyRange.{Near, Within}
+use Rattle.sky.proofs.SkyMirror.{field}
+use Rattle.sky.proofs.SkySizes.{centre-within, gave-one-angle, gave-sine-cosine, runner-near, shifted-within, widen}
 use Rattle.sky.proofs.place.from_runner.Statement.{statement}
 use Rattle.sky.proofs.place.from_runner.Tie as tie
-use Rattle.sky.proofs.place.from_runner.Reads as reads
-use Rattle.sky.proofs.place.from_runner.Lts as lts
-use Rattle.numbers.proofs.sine.sine_cosine_in.Reads as sine-cosine-in-reads
-use Rattle.sky.proofs.horizon.horizon_at.Reads as horizon-at-reads
-use Rattle.sky.proofs.observer.observer_at.Reads as observer-at-reads
-use Rattle.sky.proofs.observer.shifted.Reads as shifted-reads
-use Rattle.sky.proofs.place.from_centre.Reads as from-centre-reads
 
--- src/place.rt:62:9
+module _ (a : tie.Start) where
+  abbrev parallax : Mirror
+  parallax = field (a .args .body .parallax) (a .pre .1 .parallax-size) tt
+
+  abbrev height : Mirror
+  height = field (a .args .point .height) (a .pre .1 .height-size) tt
+
+module _ (c : tie.After-sine-cosine-in) where
+  abbrev a : tie.Start
+  a = c .before .before .before .before .before
+
+  latitude-is : c .sine-cosine-in .result ≡ sine-cosine (a .args .point .latitude)
+  latitude-is = gave-sine-cosine _ (c .sine-cosine-in .ensures) ∙ ap sine-cosine (passed (c .before .before .before .struct-told2 .given .1 .1 .0 .1) refl)
+
+  centre-small : Within 2_028_000_000 (c .before .from-centre .result)
+  centre-small = subst⁻¹ (Within 2_028_000_000) (c .before .from-centre .ensures) (centre-within (a .args .body) (a .args .point))
+
+module _ (c : tie.After-observer-at) where
+  observer-is : c .observer-at .result ≡ observer (sine-cosine (a (c .before) .args .point .latitude)) (a (c .before) .args .point .height)
+  observer-is = c .observer-at .ensures ∙ ap₂ observer (latitude-is (c .before)) (height (a (c .before)) .same)
+
+  observer-close : Near (c .observer-at .result)
+  observer-close = subst⁻¹ Near observer-is (runner-near (a (c .before) .args .body) (a (c .before) .args .point) (a (c .before) .pre .1))
+
 from-centre-requires : tie.Need-from-centre-requires
 from-centre-requires c κs = search needs
 
--- src/place.rt:63:9
 sine-cosine-in-requires : tie.Need-sine-cosine-in-requires
 sine-cosine-in-requires c κs = search needs
 
--- src/place.rt:64:9
 observer-at-requires : tie.Need-observer-at-requires
-observer-at-requires c κs = ?
+observer-at-requires c κs = (a c .pre .0, gave-one-angle _ (c .sine-cosine-in .ensures), asked (height (a c)) tt)
 
--- src/place.rt:65:19
 shifted-requires : tie.Need-shifted-requires
-shifted-requires c κs = ?
+shifted-requires c κs = (asked (parallax (a (c .before))) tt, observer-close c, widen tt (centre-small (c .before)))
 
--- src/place.rt:65:5
 horizon-at-requires : tie.Need-horizon-at-requires
-horizon-at-requires c κs = ?
+horizon-at-requires c κs =
+    let k = c .before in
+    let p = parallax (a (k .before)) in (
+      gave-one-angle _ (k .before .sine-cosine-in .ensures),
+      widen tt
+          (subst⁻¹ (Within 2_049_000_000) (c .shifted .ensures) (shifted-within (p .machine) (asked p tt) (observer-close k) (centre-small (k .before)))),
+    )
 
--- src/place.rt:55:1
 returns : tie.Need-returns
-returns c = ?
+unfolding from-runner
+returns c =
+    let k = c .before .before in
+    c .horizon-at .ensures
+    ∙ ap₂ horizon (latitude-is (k .before))
+    (c .before .shifted .ensures
+    ∙ (λ i. shifted (parallax (a (k .before)) .same i) (observer-is k i) (k .before .before .from-centre .ensures i)))
 
 pub from-runner-spec : {M : Type 1} → statement M
 from-runner-spec =
     tie.close
-    (tie.spec
-    from-centre-requires
-    sine-cosine-in-requires
-    observer-at-requires
-    shifted-requires
-    horizon-at-requires
-    returns)
+    (tie.spec from-centre-requires sine-cosine-in-requires observer-at-requires shifted-requires horizon-at-requires returns)

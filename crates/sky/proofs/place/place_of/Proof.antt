@@ -1,28 +1,33 @@
+-- `sky::place::place_of` meets its contract.
+use mathlib.Core.Path.{_∙_, ap, subst⁻¹}
 use borrow.Author.Needs.{needs}
+use Rattle.numbers.proofs.Machine.{passed}
+use Rattle.sky.specs.Horizon.{azimuth, elevation}
+use Rattle.sky.specs.Place.{place}
+use Rattle.sky.specs.SkyRange.{Seen}
+use Rattle.sky.proofs.SkySizes.{runner-seen}
 use Rattle.sky.proofs.place.place_of.Statement.{statement}
 use Rattle.sky.proofs.place.place_of.Tie as tie
-use Rattle.sky.proofs.place.place_of.Reads as reads
-use Rattle.sky.proofs.place.place_of.Lts as lts
-use Rattle.sky.proofs.horizon.azimuth.Reads as azimuth-reads
-use Rattle.sky.proofs.horizon.elevation.Reads as elevation-reads
-use Rattle.sky.proofs.place.from_runner.Reads as from-runner-reads
 
--- src/place.rt:72:9
 from-runner-requires : tie.Need-from-runner-requires
 from-runner-requires c κs = search needs
 
--- src/place.rt:74:18
 azimuth-requires : tie.Need-azimuth-requires
-azimuth-requires c κs = ?
+azimuth-requires c κs =
+    let s = c .before in
+    subst⁻¹ Seen (c .from-runner .ensures) (runner-seen (s .args .body) (s .args .point) (s .pre .1))
 
--- src/place.rt:75:20
 elevation-requires : tie.Need-elevation-requires
-elevation-requires c κs = ?
+elevation-requires c κs = azimuth-requires (c .before) κs
 
--- src/place.rt:68:1
 returns : tie.Need-returns
-returns c = ?
+unfolding place
+returns c =
+    let e = c .before .before .from-runner .ensures in
+    λ i. record {
+      azimuth = passed (c .before .azimuth .ok) (c .before .azimuth .ensures ∙ ap azimuth e) i;
+      elevation = passed (c .elevation .ok) (c .elevation .ensures ∙ ap elevation e) i;
+    }
 
 pub place-of-spec : {M : Type 1} → statement M
-place-of-spec =
-    tie.close (tie.spec from-runner-requires azimuth-requires elevation-requires returns)
+place-of-spec = tie.close (tie.spec from-runner-requires azimuth-requires elevation-requires returns)

@@ -1,21 +1,44 @@
+-- `sky::vector::meridian` meets its contract.
+use Rattle.numbers.proofs.Machine.{Mirror}
+use Rattle.sky.specs.Vector.{meridian}
+use Rattle.sky.proofs.SkyMirror.{sine-in, cosine-in, x-in, y-in, z-in, products, gave-added, gave-subtracted}
 use Rattle.sky.proofs.vector.meridian.Statement.{statement}
 use Rattle.sky.proofs.vector.meridian.Tie as tie
-use Rattle.sky.proofs.vector.meridian.Reads as reads
-use Rattle.sky.proofs.vector.meridian.Lts as lts
-use Rattle.sky.proofs.product.products_added.Reads as products-added-reads
-use Rattle.sky.proofs.product.products_subtracted.Reads as products-subtracted-reads
 
--- src/vector.rt:58:12
+module _ (a : tie.Start) where
+  abbrev s : Mirror
+  s = sine-in (a .pre .0)
+
+  abbrev c : Mirror
+  c = cosine-in (a .pre .0)
+
+  abbrev x : Mirror
+  x = x-in (a .pre .1) tt
+
+  abbrev y : Mirror
+  y = y-in (a .pre .1) tt
+
+  abbrev z : Mirror
+  z = z-in (a .pre .1) tt
+
+abbrev start : tie.After-struct-told5 → tie.Start
+start k = k .before .before .before .before .before
+
 products-added-requires : tie.Need-products-added-requires
-products-added-requires c κs = ?
+products-added-requires k κs = let a = start k in products (x a) (c a) (y a) (s a) tt
 
--- src/vector.rt:59:12
 products-subtracted-requires : tie.Need-products-subtracted-requires
-products-subtracted-requires c κs = ?
+products-subtracted-requires k κs = let a = start (k .before) in products (y a) (c a) (x a) (s a) tt
 
--- src/vector.rt:48:1
 returns : tie.Need-returns
-returns c = ?
+unfolding meridian
+returns k =
+    let a = start (k .before .before) in
+    λ i. record {
+      x = gave-added (x a) (c a) (y a) (s a) (k .before .products-added .ok) (k .before .products-added .ensures) i;
+      y = gave-subtracted (y a) (c a) (x a) (s a) (k .products-subtracted .ok) (k .products-subtracted .ensures) i;
+      z = z a .same i;
+    }
 
 pub meridian-spec : {M : Type 1} → statement M
 meridian-spec = tie.close (tie.spec products-added-requires products-subtracted-requires returns)

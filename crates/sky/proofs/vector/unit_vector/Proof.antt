@@ -1,29 +1,43 @@
+-- `sky::vector::unit_vector` meets its contract.
 use borrow.Author.Needs.{needs}
+use Rattle.numbers.proofs.Machine.{Mirror, fits, kept, floor-gave, _⊗_}
+use Rattle.sky.specs.Product.{_·_}
+use Rattle.sky.specs.Vector.{unit-vector}
+use Rattle.sky.proofs.SkyMirror.{sine-in, cosine-in}
 use Rattle.sky.proofs.vector.unit_vector.Statement.{statement}
 use Rattle.sky.proofs.vector.unit_vector.Tie as tie
-use Rattle.sky.proofs.vector.unit_vector.Reads as reads
-use Rattle.sky.proofs.vector.unit_vector.Lts as lts
-use Rattle.numbers.proofs.whole.floor_div.Reads as floor-div-reads
 
--- src/vector.rt:25:23
+module _ (k : tie.After-struct-told4) where
+  abbrev a : tie.Start
+  a = k .before .before .before .before
+
+  abbrev xx : Mirror
+  xx = cosine-in (a .pre .1) ⊗ cosine-in (a .pre .0)
+
+  abbrev yy : Mirror
+  yy = cosine-in (a .pre .1) ⊗ sine-in (a .pre .0)
+
 mul-floor-div : tie.Need-mul-floor-div
-mul-floor-div c = ?
+mul-floor-div c = fits (xx c) tt
 
--- src/vector.rt:25:9
 floor-div-requires : tie.Need-floor-div-requires
 floor-div-requires c κs = search needs
 
--- src/vector.rt:26:23
 mul-floor-div-2 : tie.Need-mul-floor-div-2
-mul-floor-div-2 c = ?
+mul-floor-div-2 c = fits (yy (c .before)) tt
 
--- src/vector.rt:26:9
 floor-div-requires-2 : tie.Need-floor-div-requires-2
 floor-div-requires-2 c κs = search needs
 
--- src/vector.rt:17:1
 returns : tie.Need-returns
-returns c = ?
+unfolding unit-vector _·_
+returns c =
+    let k = c .before .before in
+    λ i. record {
+      x = floor-gave (kept (xx k) tt) 1_000_000_000 (c .before .floor-div .ok) (c .before .floor-div .ensures) .same i;
+      y = floor-gave (kept (yy k) tt) 1_000_000_000 (c .floor-div2 .ok) (c .floor-div2 .ensures) .same i;
+      z = sine-in (a k .pre .1) .same i;
+    }
 
 pub unit-vector-spec : {M : Type 1} → statement M
 unit-vector-spec =
