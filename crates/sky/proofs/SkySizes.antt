@@ -13,7 +13,7 @@ use Rattle.numbers.specs.Sine.{cosine, sine}
 use Rattle.numbers.specs.declared.sine.SineCosine.{SineCosine}
 use Rattle.numbers.proofs.SineSize.{cosine-most, pair-most, sine-most}
 use Rattle.sky.specs.Horizon.{horizon}
-use Rattle.sky.specs.Observer.{flattened, observer, shifted}
+use Rattle.sky.specs.Observer.{flattened, observer, polar, radius, shifted}
 use Rattle.sky.specs.Place.{from-centre, from-runner}
 use Rattle.sky.specs.Product.{_·_, sine-cosine}
 use Rattle.sky.specs.SkyRange.{Near, OneAngle, Seen, Viewed, Within}
@@ -105,11 +105,11 @@ unfolding observer
 observer-near {t} h u k =
     let w = flattened t in
     record {
-      f-size = le-trans (add-bound (cosine w) ⌊ h *ℤ t .cosine ÷ 6_378_140 ⌋ (cosine-most w) (over h (t .cosine) 6_378_140 k (u .cosine-size))) (lit≤ tt);
+      f-size = le-trans (add-bound (cosine w) ⌊ h *ℤ t .cosine ÷ radius ⌋ (cosine-most w) (over h (t .cosine) radius k (u .cosine-size))) (lit≤ tt);
       g-size =
           le-trans
-          (add-bound ⌊ pos 99_664_719 *ℤ sine w ÷ 100_000_000 ⌋ ⌊ h *ℤ t .sine ÷ 6_378_140 ⌋
-          (over (pos 99_664_719) (sine w) 100_000_000 {m = 99_664_719} (lit≤ tt) (sine-most w)) (over h (t .sine) 6_378_140 k (u .sine-size)))
+          (add-bound ⌊ polar *ℤ sine w ÷ 100_000_000 ⌋ ⌊ h *ℤ t .sine ÷ radius ⌋
+          (over polar (sine w) 100_000_000 {m = 99_664_719} (lit≤ tt) (sine-most w)) (over h (t .sine) radius k (u .sine-size)))
           (lit≤ tt);
     }
 

@@ -1,4 +1,5 @@
 -- Where the runner stands (01, "From the centre to the runner": Observer).
+use Prim.Native.Nat.{ℕ}
 use lib.IntN.{ℤ, pos, _+ℤ_, _-ℤ_, _*ℤ_}
 use Rattle.arithmetic.specs.Floor.{⌊_÷_⌋}
 use Rattle.numbers.specs.Arctangent.{arctangent}
@@ -8,17 +9,25 @@ use Rattle.sky.specs.declared.vector.Vector.{Vector}
 use Rattle.sky.specs.declared.observer.Observer.{Observer}
 use Rattle.sky.specs.Product.{_·_}
 
+-- the Earth's radius at the equator, in metres
+abbrev pub radius : ℕ
+radius = 6_378_140
+
+-- the polar radius, times 10⁸, where the equator's is 1
+abbrev pub polar : ℤ
+polar = pos 99_664_719
+
 -- w = arctangent(floor(99,664,719 sinφ/10⁸), cosφ)
 unfoldable pub flattened : SineCosine → ℤ
-flattened φ = pos (arctangent ⌊ pos 99_664_719 *ℤ φ .sine ÷ 100_000_000 ⌋ (φ .cosine))
+flattened φ = pos (arctangent ⌊ polar *ℤ φ .sine ÷ 100_000_000 ⌋ (φ .cosine))
 
 -- f = cos w + floor(H cosφ/6,378,140); g = floor(99,664,719 sin w/10⁸) + floor(H sinφ/6,378,140)
 unfoldable pub observer : SineCosine → ℤ → Observer
 observer φ height =
     let w = flattened φ in
     record {
-      f = cosine w +ℤ ⌊ height *ℤ φ .cosine ÷ 6_378_140 ⌋;
-      g = ⌊ pos 99_664_719 *ℤ sine w ÷ 100_000_000 ⌋ +ℤ ⌊ height *ℤ φ .sine ÷ 6_378_140 ⌋;
+      f = cosine w +ℤ ⌊ height *ℤ φ .cosine ÷ radius ⌋;
+      g = ⌊ polar *ℤ sine w ÷ 100_000_000 ⌋ +ℤ ⌊ height *ℤ φ .sine ÷ radius ⌋;
     }
 
 -- a less p·f, z less p·g

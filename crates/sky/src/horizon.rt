@@ -2,6 +2,7 @@
 use super::product::products_added;
 use super::product::products_subtracted;
 use super::vector::Vector;
+use numbers::angle::Angle;
 use numbers::arctangent::arctangent;
 use numbers::root::root;
 use numbers::sine::SineCosine;
@@ -36,7 +37,6 @@ pub fn horizon_at(latitude: SineCosine, v: Vector) -> Horizon
 }
 
 pub fn azimuth(h: Horizon) -> i64
-    requires { ⌜ Seen h ⌝ }
     ensures { λ r. ⌜ r ≡ azimuth h ⌝ }
 {
     let n = h.north;
@@ -50,8 +50,8 @@ fn lowered(a: i64) -> i64
     requires { ⌜ natAbs a ≤ full-turn ⌝ }
     ensures { λ r. ⌜ r ≡ lowered a ⌝ }
 {
-    if a >= 18_000_000_000 {
-        a - 36_000_000_000
+    if a >= Angle::HALF as i64 {
+        a - Angle::FULL as i64
     } else {
         a
     }
@@ -61,10 +61,11 @@ fn lowered(a: i64) -> i64
 fn clamped(e: i64) -> i64
     ensures { λ r. ⌜ r ≡ clamped e ⌝ }
 {
-    if e > 9_000_000_000 {
-        9_000_000_000
-    } else if e < -9_000_000_000 {
-        -9_000_000_000
+    let most = Angle::QUARTER as i64;
+    if e > most {
+        most
+    } else if e < -most {
+        -most
     } else {
         e
     }

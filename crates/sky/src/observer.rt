@@ -11,6 +11,12 @@ ghost use Rattle.numbers.specs.SineTable.{sines};
 ghost use Rattle.sky.specs.Observer.{observer, shifted};
 ghost use Rattle.sky.specs.SkyRange.{OneAngle, Within, Near};
 
+// The Earth's radius at the equator, in metres.
+pub const RADIUS: u64 = 6_378_140;
+
+// The polar radius, times 10⁸, where the equator's is 1.
+const POLAR: i64 = 99_664_719;
+
 // The distances from the Earth's axis and from the equator's plane.
 pub struct Observer {
     pub f: i64,
@@ -24,13 +30,13 @@ pub fn observer_at(table: &[u32; 361], latitude: SineCosine, height: i64) -> Obs
 {
     let s = latitude.sine;
     let c = latitude.cosine;
-    let y = floor_div(99_664_719 * s, 100_000_000);
+    let y = floor_div(POLAR * s, 100_000_000);
     let a = arctangent(y, c).units;
     let w = sine_cosine_in(table, a as i64);
     let ws = w.sine;
     let wc = w.cosine;
-    let f = wc + floor_div(height * c, 6_378_140);
-    let g = floor_div(99_664_719 * ws, 100_000_000) + floor_div(height * s, 6_378_140);
+    let f = wc + floor_div(height * c, RADIUS);
+    let g = floor_div(POLAR * ws, 100_000_000) + floor_div(height * s, RADIUS);
     Observer { f, g }
 }
 

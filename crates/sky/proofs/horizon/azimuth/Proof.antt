@@ -1,17 +1,19 @@
 -- `sky::horizon::azimuth` meets its contract.
+use mathlib.Core.Path.{refl}
 use borrow.Author.Needs.{needs}
 use Rattle.numbers.proofs.Machine.{Mirror}
+use Rattle.sums.proofs.NarrowMirror.{some-gave}
 use Rattle.sky.specs.Horizon.{azimuth}
-use Rattle.sky.proofs.SkyMirror.{angle-fits, angle-gave, field}
+use Rattle.sky.proofs.SkyMirror.{angle-fits, angle-gave}
 use Rattle.sky.proofs.horizon.azimuth.Statement.{statement}
 use Rattle.sky.proofs.horizon.azimuth.Tie as tie
 
 module _ (k : tie.After-struct-told2) where
   abbrev east : Mirror
-  east = field (k .before .before .args .h .east) (k .before .before .pre .east-size) tt
+  east = some-gave {r = k .before .before .args .h .east} (k .struct-told2 .given .1 .1 .0 .1) refl
 
   abbrev north : Mirror
-  north = field (k .before .before .args .h .north) (k .before .before .pre .north-size) tt
+  north = some-gave {r = k .before .before .args .h .north} (k .before .struct-told .given .1 .0 .1) refl
 
 arctangent-requires : tie.Need-arctangent-requires
 arctangent-requires c κs = search needs

@@ -3,6 +3,7 @@ use mathlib.Core.Path.{_≡_, subst}
 use mathlib.Core.Bool.{true, false}
 use lib.IntN.{ℤ, pos, negℤ}
 use lib.Signed.{ltZ}
+use borrow.Author.Needs.{needs}
 use Rattle.numbers.specs.Angle.{quarter-turn}
 use Rattle.numbers.proofs.Machine.{Mirror, any}
 use Rattle.sky.specs.Horizon.{clamped}
@@ -11,6 +12,15 @@ use Rattle.sky.proofs.horizon.clamped.Tie as tie
 
 abbrev e : tie.Start → Mirror
 e a = any (a .fits .e)
+
+cast-most : tie.Need-cast-most
+cast-most c = search needs
+
+sub-if2 : tie.Need-sub-if2
+sub-if2 c = search needs
+
+sub-result : tie.Need-sub-result
+sub-result c = search needs
 
 returns : tie.Need-returns
 unfolding clamped
@@ -29,4 +39,4 @@ returns-3 c =
     rw (subst (λ (z : ℤ). ltZ (pos quarter-turn) z ≡ false) s (c .before .if1 .left), subst (λ (z : ℤ). ltZ z (negℤ (pos quarter-turn)) ≡ false) s (c .if2 .left)) s
 
 pub clamped-spec : {M : Type 1} → statement M
-clamped-spec = tie.close (tie.spec returns returns-2 returns-3)
+clamped-spec = tie.close (tie.spec cast-most sub-if2 sub-result returns returns-2 returns-3)

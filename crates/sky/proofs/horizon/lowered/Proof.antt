@@ -3,6 +3,7 @@ use mathlib.Core.Path.{_≡_, subst}
 use mathlib.Core.Bool.{true, false}
 use lib.IntN.{ℤ, pos}
 use lib.Signed.{leZ}
+use borrow.Author.Needs.{needs}
 use Rattle.numbers.specs.Angle.{full-turn, half-turn}
 use Rattle.numbers.proofs.Machine.{Mirror, arg, lit, fits, kept, _⊖_}
 use Rattle.sky.specs.Horizon.{lowered}
@@ -11,6 +12,12 @@ use Rattle.sky.proofs.horizon.lowered.Tie as tie
 
 abbrev a : tie.Start → Mirror
 a s = arg (s .fits .a) (s .pre)
+
+cast-if1 : tie.Need-cast-if1
+cast-if1 c = search needs
+
+cast-result : tie.Need-cast-result
+cast-result c = search needs
 
 sub-result : tie.Need-sub-result
 sub-result c = fits (a (c .before) ⊖ lit (pos full-turn)) tt
@@ -26,4 +33,4 @@ unfolding lowered
 returns-2 c = rw (subst (λ (z : ℤ). leZ (pos half-turn) z ≡ false) (a (c .before) .same) (c .if1 .left)) (a (c .before) .same)
 
 pub lowered-spec : {M : Type 1} → statement M
-lowered-spec = tie.close (tie.spec sub-result returns returns-2)
+lowered-spec = tie.close (tie.spec cast-if1 cast-result sub-result returns returns-2)

@@ -5,7 +5,7 @@ use borrow.Author.Needs.{needs}
 use Rattle.numbers.specs.Sine.{cosine, sine}
 use Rattle.numbers.proofs.Machine.{Mirror, _⊕_, _⊗_, arg, fits, floor-gave, kept, lit, told}
 use Rattle.numbers.proofs.SineSize.{cosine-most, sine-most}
-use Rattle.sky.specs.Observer.{flattened, observer}
+use Rattle.sky.specs.Observer.{flattened, observer, polar, radius}
 use Rattle.sky.proofs.SkyMirror.{angle-fits, angle-gave, cosine-in, sine-in}
 use Rattle.sky.proofs.observer.observer_at.Statement.{statement}
 use Rattle.sky.proofs.observer.observer_at.Tie as tie
@@ -24,7 +24,7 @@ module _ (k : tie.After-struct-told2) where
   height = arg (a .fits .height) (a .pre .2)
 
   abbrev shrunk : Mirror
-  shrunk = lit (pos 99_664_719) ⊗ s
+  shrunk = lit polar ⊗ s
 
 abbrev y : tie.After-floor-div → Mirror
 y k = floor-gave (kept (shrunk (k .before)) tt) 100_000_000 (k .floor-div .ok) (k .floor-div .ensures)
@@ -56,17 +56,17 @@ module _ (k : tie.After-sine-cosine-in) where
   abbrev across : Mirror
   across = height k₀ ⊗ s k₀
 
-  abbrev polar : Mirror
-  polar = lit (pos 99_664_719) ⊗ ws
+  abbrev axial : Mirror
+  axial = lit polar ⊗ ws
 
 abbrev f : tie.After-floor-div2 → Mirror
-f k = let w = k .before .before .before in wc w ⊕ floor-gave (kept (up w) tt) 6_378_140 (k .floor-div2 .ok) (k .floor-div2 .ensures)
+f k = let w = k .before .before .before in wc w ⊕ floor-gave (kept (up w) tt) radius (k .floor-div2 .ok) (k .floor-div2 .ensures)
 
 abbrev g : tie.After-floor-div4 → Mirror
 g k =
     let w = k .before .before .before .before .before in
-    floor-gave (kept (polar w) tt) 100_000_000 (k .before .floor-div3 .ok) (k .before .floor-div3 .ensures)
-    ⊕ floor-gave (kept (across w) tt) 6_378_140 (k .floor-div4 .ok) (k .floor-div4 .ensures)
+    floor-gave (kept (axial w) tt) 100_000_000 (k .before .floor-div3 .ok) (k .before .floor-div3 .ensures)
+    ⊕ floor-gave (kept (across w) tt) radius (k .floor-div4 .ok) (k .floor-div4 .ensures)
 
 mul-floor-div : tie.Need-mul-floor-div
 mul-floor-div k = fits (shrunk k) tt
@@ -93,7 +93,7 @@ add-f : tie.Need-add-f
 add-f k = fits (f k) tt
 
 mul-floor-div-3 : tie.Need-mul-floor-div-3
-mul-floor-div-3 k = fits (polar (k .before .before .before)) tt
+mul-floor-div-3 k = fits (axial (k .before .before .before)) tt
 
 floor-div-requires-3 : tie.Need-floor-div-requires-3
 floor-div-requires-3 k κs = search needs

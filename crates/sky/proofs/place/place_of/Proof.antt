@@ -13,12 +13,12 @@ from-runner-requires : tie.Need-from-runner-requires
 from-runner-requires c κs = search needs
 
 azimuth-requires : tie.Need-azimuth-requires
-azimuth-requires c κs =
-    let s = c .before in
-    subst⁻¹ Seen (c .from-runner .ensures) (runner-seen (s .args .body) (s .args .point) (s .pre .1))
+azimuth-requires c κs = search needs
 
 elevation-requires : tie.Need-elevation-requires
-elevation-requires c κs = azimuth-requires (c .before) κs
+elevation-requires c κs =
+    let s = c .before .before in
+    subst⁻¹ Seen (c .before .from-runner .ensures) (runner-seen (s .args .body) (s .args .point) (s .pre .1))
 
 returns : tie.Need-returns
 unfolding place
