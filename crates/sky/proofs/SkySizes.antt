@@ -5,7 +5,7 @@ use Prim.Native.Nat.{_*_, _+_, _/_, _≤_, ℕ}
 use native.Mathlib.Nat.{le-refl, le-trans, mul-le-mul-left}
 use native.Mathlib.Omega.{arith}
 use lib.Dec.{T, leb, leb→le, lit≤}
-use lib.IntN.{_*ℤ_, _+ℤ_, _-ℤ_, natAbs, pos, ℤ}
+use lib.IntN.{_*ℤ_, _+ℤ_, _-ℤ_, natAbs, ℤ}
 use Rattle.arithmetic.specs.Floor.{⌊_÷_⌋}
 use Rattle.arithmetic.proofs.FloorLaws.{floor-most}
 use Rattle.arithmetic.proofs.Sizes.{add-bound, mul-bound, sub-bound}
@@ -18,7 +18,6 @@ use Rattle.sky.specs.Place.{from-centre, from-runner}
 use Rattle.sky.specs.Product.{_·_, sine-cosine}
 use Rattle.sky.specs.SkyRange.{Near, OneAngle, Seen, Viewed, Within}
 use Rattle.sky.specs.Vector.{equatorial, meridian, unit-vector}
-use Rattle.sky.specs.declared.horizon.Horizon.{Horizon}
 use Rattle.sky.specs.declared.observer.Observer.{Observer}
 use Rattle.sky.specs.declared.place.Body.{Body}
 use Rattle.sky.specs.declared.place.Point.{Point}
@@ -36,10 +35,13 @@ gave-sine-cosine x e = λ i. record { sine = e .0 i; cosine = e .1 i }
 pub gave-one-angle : (x : ℤ) {r : SineCosine} → (r .sine ≡ sine x) × (r .cosine ≡ cosine x) → OneAngle r
 gave-one-angle x e = subst⁻¹ OneAngle (gave-sine-cosine x e) (one-angle x)
 
--- one product
+-- a product over a numeral, and over 10⁹
+floored-most : (a b : ℤ) (d : ℕ) {m n : ℕ} → natAbs a ≤ m → natAbs b ≤ n → natAbs ⌊ a *ℤ b ÷ d ⌋ ≤ m * n / d + 1
+floored-most a b d {m} {n} h k = floor-most (a *ℤ b) d (m * n) (mul-bound a b h k)
+
 product-most : (p u : ℤ) {m n : ℕ} → natAbs p ≤ m → natAbs u ≤ n → natAbs (p · u) ≤ m * n / 1_000_000_000 + 1
 unfolding _·_
-product-most p u {m} {n} h k = floor-most (p *ℤ u) 1_000_000_000 (m * n) (mul-bound p u h k)
+product-most p u h k = floored-most p u 1_000_000_000 h k
 
 -- two, by a sine and a cosine
 abbrev grown : ℕ → ℕ
@@ -96,20 +98,16 @@ meridian-within {h} {v} u w =
       z-size = le-trans (w .z-size) (lit≤ tt);
     }
 
--- a product over a numeral
-over : (a b : ℤ) (d : ℕ) {m n : ℕ} → natAbs a ≤ m → natAbs b ≤ n → natAbs ⌊ a *ℤ b ÷ d ⌋ ≤ m * n / d + 1
-over a b d {m} {n} h k = floor-most (a *ℤ b) d (m * n) (mul-bound a b h k)
-
 observer-near : {t : SineCosine} (h : ℤ) → OneAngle t → natAbs h ≤ 9_000 → Near (observer t h)
 unfolding observer
 observer-near {t} h u k =
     let w = flattened t in
     record {
-      f-size = le-trans (add-bound (cosine w) ⌊ h *ℤ t .cosine ÷ radius ⌋ (cosine-most w) (over h (t .cosine) radius k (u .cosine-size))) (lit≤ tt);
+      f-size = le-trans (add-bound (cosine w) ⌊ h *ℤ t .cosine ÷ radius ⌋ (cosine-most w) (floored-most h (t .cosine) radius k (u .cosine-size))) (lit≤ tt);
       g-size =
           le-trans
           (add-bound ⌊ polar *ℤ sine w ÷ 100_000_000 ⌋ ⌊ h *ℤ t .sine ÷ radius ⌋
-          (over polar (sine w) 100_000_000 {m = 99_664_719} (lit≤ tt) (sine-most w)) (over h (t .sine) radius k (u .sine-size)))
+          (floored-most polar (sine w) 100_000_000 {m = 99_664_719} (lit≤ tt) (sine-most w)) (floored-most h (t .sine) radius k (u .sine-size)))
           (lit≤ tt);
     }
 

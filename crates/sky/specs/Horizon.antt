@@ -1,14 +1,14 @@
 -- Up, north and east, and their angles (01, "From the centre to the runner").
 use mathlib.Core.Bool.{cond}
-use lib.IntN.{ℤ, pos, negℤ, natAbs, _+ℤ_, _-ℤ_, _*ℤ_}
-use lib.Signed.{ltZ, leZ}
+use lib.IntN.{_*ℤ_, _+ℤ_, _-ℤ_, natAbs, negℤ, pos, ℤ}
+use lib.Signed.{leZ, ltZ}
 use Rattle.numbers.specs.Angle.{full-turn, half-turn, quarter-turn}
 use Rattle.numbers.specs.Arctangent.{arctangent}
 use Rattle.numbers.specs.Root.{root}
 use Rattle.numbers.specs.declared.sine.SineCosine.{SineCosine}
-use Rattle.sky.specs.declared.vector.Vector.{Vector}
-use Rattle.sky.specs.declared.horizon.Horizon.{Horizon}
 use Rattle.sky.specs.Product.{_·_}
+use Rattle.sky.specs.declared.horizon.Horizon.{Horizon}
+use Rattle.sky.specs.declared.vector.Vector.{Vector}
 
 -- up = a cosφ + z sinφ; north = z cosφ - a sinφ; east = b
 unfoldable pub horizon : SineCosine → Vector → Horizon

@@ -1,13 +1,13 @@
 -- Where the runner stands (01, "From the centre to the runner": Observer).
 use Prim.Native.Nat.{ℕ}
-use lib.IntN.{ℤ, pos, _+ℤ_, _-ℤ_, _*ℤ_}
+use lib.IntN.{_*ℤ_, _+ℤ_, _-ℤ_, pos, ℤ}
 use Rattle.arithmetic.specs.Floor.{⌊_÷_⌋}
 use Rattle.numbers.specs.Arctangent.{arctangent}
-use Rattle.numbers.specs.Sine.{sine, cosine}
+use Rattle.numbers.specs.Sine.{cosine, sine}
 use Rattle.numbers.specs.declared.sine.SineCosine.{SineCosine}
-use Rattle.sky.specs.declared.vector.Vector.{Vector}
-use Rattle.sky.specs.declared.observer.Observer.{Observer}
 use Rattle.sky.specs.Product.{_·_}
+use Rattle.sky.specs.declared.observer.Observer.{Observer}
+use Rattle.sky.specs.declared.vector.Vector.{Vector}
 
 -- the Earth's radius at the equator, in metres
 abbrev pub radius : ℕ

@@ -1,13 +1,13 @@
 -- From the centre to the runner (01, the section of that name).
-use Rattle.sky.specs.declared.vector.Vector.{Vector}
+use Rattle.sky.specs.Horizon.{azimuth, elevation, horizon}
+use Rattle.sky.specs.Observer.{observer, shifted}
+use Rattle.sky.specs.Product.{sine-cosine}
+use Rattle.sky.specs.Vector.{equatorial, meridian, unit-vector}
 use Rattle.sky.specs.declared.horizon.Horizon.{Horizon}
 use Rattle.sky.specs.declared.place.Body.{Body}
-use Rattle.sky.specs.declared.place.Point.{Point}
 use Rattle.sky.specs.declared.place.Place.{Place}
-use Rattle.sky.specs.Product.{sine-cosine}
-use Rattle.sky.specs.Vector.{unit-vector, equatorial, meridian}
-use Rattle.sky.specs.Observer.{observer, shifted}
-use Rattle.sky.specs.Horizon.{horizon, azimuth, elevation}
+use Rattle.sky.specs.declared.place.Point.{Point}
+use Rattle.sky.specs.declared.vector.Vector.{Vector}
 
 -- the unit vector, by the obliquity and by θ = sidereal + longitude
 unfoldable pub from-centre : Body → Point → Vector

@@ -1,10 +1,10 @@
--- Products of sines and cosines (01, "From the centre to the runner").
-use lib.IntN.{ℤ, _*ℤ_}
+-- Products of sines and cosines (01, "Units and rounding").
+use lib.IntN.{_*ℤ_, ℤ}
 use Rattle.arithmetic.specs.Floor.{⌊_÷_⌋}
-use Rattle.numbers.specs.Sine.{sine, cosine}
+use Rattle.numbers.specs.Sine.{cosine, sine}
 use Rattle.numbers.specs.declared.sine.SineCosine.{SineCosine}
 
--- a product of two numbers times 10⁹, floored by 10⁹
+-- a product of two sine-scaled numbers is floored by 10⁹ before it is added or subtracted
 infixl 70 _·_
 unfoldable pub _·_ : ℤ → ℤ → ℤ
 a · b = ⌊ a *ℤ b ÷ 1_000_000_000 ⌋

@@ -1,12 +1,12 @@
 -- What keeps the sky's numbers within 64 bits: |sin| + |cos| of one angle, a parallax of at most 2·10⁷, heights within 9,000 metres of the sea.
-use Prim.Native.Nat.{ℕ, _+_, _≤_}
-use lib.IntN.{ℤ, natAbs}
+use Prim.Native.Nat.{_+_, _≤_, ℕ}
+use lib.IntN.{natAbs, ℤ}
 use Rattle.numbers.specs.declared.sine.SineCosine.{SineCosine}
-use Rattle.sky.specs.declared.vector.Vector.{Vector}
-use Rattle.sky.specs.declared.observer.Observer.{Observer}
 use Rattle.sky.specs.declared.horizon.Horizon.{Horizon}
+use Rattle.sky.specs.declared.observer.Observer.{Observer}
 use Rattle.sky.specs.declared.place.Body.{Body}
 use Rattle.sky.specs.declared.place.Point.{Point}
+use Rattle.sky.specs.declared.vector.Vector.{Vector}
 
 -- what any sine and cosine of one angle keep to
 pub record OneAngle (t : SineCosine) : Type 0 where

@@ -1,8 +1,8 @@
 -- The body's vector and its rotations (01, "From the centre to the runner").
 use lib.IntN.{_+ℤ_, _-ℤ_}
 use Rattle.numbers.specs.declared.sine.SineCosine.{SineCosine}
-use Rattle.sky.specs.declared.vector.Vector.{Vector}
 use Rattle.sky.specs.Product.{_·_}
+use Rattle.sky.specs.declared.vector.Vector.{Vector}
 
 -- unit vector, body's longitude l, latitude t: X = cos t cos l, Y = cos t sin l, Z = sin t
 unfoldable pub unit-vector : SineCosine → SineCosine → Vector

@@ -1,7 +1,7 @@
 -- `sky::horizon::clamped` meets its contract.
+use mathlib.Core.Bool.{false, true}
 use mathlib.Core.Path.{_≡_, subst}
-use mathlib.Core.Bool.{true, false}
-use lib.IntN.{ℤ, pos, negℤ}
+use lib.IntN.{negℤ, pos, ℤ}
 use lib.Signed.{ltZ}
 use borrow.Author.Needs.{needs}
 use Rattle.numbers.specs.Angle.{quarter-turn}

@@ -1,20 +1,20 @@
 -- `sky::horizon::elevation` meets its contract. The two squares, each at most 9·10¹⁸, fit 64 unsigned bits together.
-use mathlib.Core.Path.{_≡_, refl, sym, ap, ap₂, subst, _∙_}
-use Prim.Native.Nat.{ℕ, _+_, _^_, _≤_}
+use mathlib.Core.Path.{_∙_, _≡_, ap, ap₂, subst, sym}
+use Prim.Native.Nat.{_+_, _≤_, ℕ}
 use native.Mathlib.Omega.{arith}
-use borrow.Author.Needs.{needs}
-use lib.IntN.{ℤ, pos, natAbs, _+ℤ_, _*ℤ_}
+use lib.IntN.{_*ℤ_, _+ℤ_, natAbs, pos, ℤ}
 use mir.Syntax.{w64}
 use mir.Val.{Fits, SFits, toZ}
 use mir.ValLaws.{toZ-pos}
-use Rattle.numbers.proofs.Machine.{Mirror, fits, kept, passed, nat-fits, _⊗_}
-use Rattle.sums.proofs.NarrowMirror.{asked}
+use borrow.Author.Needs.{needs}
 use Rattle.numbers.specs.Root.{root}
+use Rattle.numbers.proofs.Machine.{Mirror, _⊗_, fits, kept, nat-fits, passed}
 use Rattle.numbers.proofs.RootLaws.{root-most}
-use Rattle.sky.specs.declared.horizon.Horizon.{Horizon}
-use Rattle.sky.specs.Horizon.{elevation, level, lowered, clamped}
+use Rattle.sums.proofs.NarrowMirror.{asked}
+use Rattle.sky.specs.Horizon.{clamped, elevation, level, lowered}
 use Rattle.sky.specs.SkyRange.{Seen}
-use Rattle.sky.proofs.SkyMirror.{field, angle-fits, angle-gave, square-is, square-most, square-cast}
+use Rattle.sky.specs.declared.horizon.Horizon.{Horizon}
+use Rattle.sky.proofs.SkyMirror.{angle-fits, angle-gave, field, square-cast, square-is, square-most}
 use Rattle.sky.proofs.horizon.elevation.Statement.{statement}
 use Rattle.sky.proofs.horizon.elevation.Tie as tie
 

@@ -1,7 +1,7 @@
 -- `sky::horizon::horizon_at` meets its contract.
 use Rattle.numbers.proofs.Machine.{Mirror}
 use Rattle.sky.specs.Horizon.{horizon}
-use Rattle.sky.proofs.SkyMirror.{sine-in, cosine-in, x-in, y-in, z-in, products, gave-added, gave-subtracted}
+use Rattle.sky.proofs.SkyMirror.{cosine-in, gave-added, gave-subtracted, products, sine-in, x-in, y-in, z-in}
 use Rattle.sky.proofs.horizon.horizon_at.Statement.{statement}
 use Rattle.sky.proofs.horizon.horizon_at.Tie as tie
 

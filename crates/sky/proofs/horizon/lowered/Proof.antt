@@ -1,11 +1,11 @@
 -- `sky::horizon::lowered` meets its contract.
+use mathlib.Core.Bool.{false, true}
 use mathlib.Core.Path.{_≡_, subst}
-use mathlib.Core.Bool.{true, false}
-use lib.IntN.{ℤ, pos}
+use lib.IntN.{pos, ℤ}
 use lib.Signed.{leZ}
 use borrow.Author.Needs.{needs}
 use Rattle.numbers.specs.Angle.{full-turn, half-turn}
-use Rattle.numbers.proofs.Machine.{Mirror, arg, lit, fits, kept, _⊖_}
+use Rattle.numbers.proofs.Machine.{Mirror, _⊖_, arg, fits, kept, lit}
 use Rattle.sky.specs.Horizon.{lowered}
 use Rattle.sky.proofs.horizon.lowered.Statement.{statement}
 use Rattle.sky.proofs.horizon.lowered.Tie as tie

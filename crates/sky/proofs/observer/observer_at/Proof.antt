@@ -1,6 +1,5 @@
 -- `sky::observer::observer_at` meets its contract. Each local is mirrored once, at the place where it is known.
 use mathlib.Core.Path.{_∙_, _≡_, ap}
-use lib.IntN.{pos}
 use borrow.Author.Needs.{needs}
 use Rattle.numbers.specs.Sine.{cosine, sine}
 use Rattle.numbers.proofs.Machine.{Mirror, _⊕_, _⊗_, arg, fits, floor-gave, kept, lit, told}

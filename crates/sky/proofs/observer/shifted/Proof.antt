@@ -1,8 +1,8 @@
 -- `sky::observer::shifted` meets its contract.
 use borrow.Author.Needs.{needs}
-use Rattle.numbers.proofs.Machine.{Mirror, arg, fits, kept, floor-gave, _⊖_, _⊗_}
-use Rattle.sky.specs.Product.{_·_}
+use Rattle.numbers.proofs.Machine.{Mirror, _⊖_, _⊗_, arg, fits, floor-gave, kept}
 use Rattle.sky.specs.Observer.{shifted}
+use Rattle.sky.specs.Product.{_·_}
 use Rattle.sky.proofs.SkyMirror.{field, x-in, y-in, z-in}
 use Rattle.sky.proofs.observer.shifted.Statement.{statement}
 use Rattle.sky.proofs.observer.shifted.Tie as tie

@@ -1,5 +1,5 @@
 -- `sky::place::from_centre` meets its contract: each call's equation, put into the next.
-use mathlib.Core.Path.{_∙_, _≡_, ap, ap₂, refl, subst⁻¹}
+use mathlib.Core.Path.{_∙_, ap, ap₂, refl, subst⁻¹}
 use borrow.Author.Needs.{needs}
 use Rattle.numbers.proofs.Machine.{passed}
 use Rattle.sky.specs.Place.{from-centre}

@@ -1,6 +1,6 @@
 -- `sky::product::products_added` meets its contract.
 use borrow.Author.Needs.{needs}
-use Rattle.numbers.proofs.Machine.{Mirror, arg, fits, kept, floor-gave, _⊕_, _⊗_}
+use Rattle.numbers.proofs.Machine.{Mirror, _⊕_, _⊗_, arg, fits, floor-gave, kept}
 use Rattle.sky.specs.Product.{_·_}
 use Rattle.sky.proofs.product.products_added.Statement.{statement}
 use Rattle.sky.proofs.product.products_added.Tie as tie

@@ -1,9 +1,9 @@
 -- `sky::vector::unit_vector` meets its contract.
 use borrow.Author.Needs.{needs}
-use Rattle.numbers.proofs.Machine.{Mirror, fits, kept, floor-gave, _⊗_}
+use Rattle.numbers.proofs.Machine.{Mirror, _⊗_, fits, floor-gave, kept}
 use Rattle.sky.specs.Product.{_·_}
 use Rattle.sky.specs.Vector.{unit-vector}
-use Rattle.sky.proofs.SkyMirror.{sine-in, cosine-in}
+use Rattle.sky.proofs.SkyMirror.{cosine-in, sine-in}
 use Rattle.sky.proofs.vector.unit_vector.Statement.{statement}
 use Rattle.sky.proofs.vector.unit_vector.Tie as tie
 
