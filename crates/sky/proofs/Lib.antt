@@ -1,2 +1,3 @@
+pub mod HeadingLaws
 pub mod SkySizes
 pub mod SkyMirror

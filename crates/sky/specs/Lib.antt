@@ -1,3 +1,4 @@
+pub mod Heading
 pub mod Product
 pub mod Vector
 pub mod Observer

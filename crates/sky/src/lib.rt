@@ -1,4 +1,5 @@
 // The sky: a body's place from a point on Earth.
+pub mod heading;
 pub mod horizon;
 pub mod observer;
 pub mod place;
