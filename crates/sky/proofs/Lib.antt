@@ -1,3 +1,4 @@
 pub mod HeadingLaws
 pub mod SkySizes
 pub mod SkyMirror
+pub mod CasesHold

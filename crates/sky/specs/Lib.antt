@@ -5,3 +5,4 @@ pub mod Observer
 pub mod Horizon
 pub mod Place
 pub mod SkyRange
+pub mod Cases
