@@ -5,6 +5,7 @@ pub mod SumLoop
 pub mod MoonLaws
 pub mod NutationLaws
 pub mod SunLaws
+pub mod Distances
 pub mod FloorsNear
 pub mod WeightedSum
 pub mod AnglesNear
