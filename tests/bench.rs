@@ -7,38 +7,8 @@ use std::fs;
 use std::hint::black_box;
 use std::time::Instant;
 
-#[repr(C)]
-#[derive(Clone, Copy)]
-struct MoonSums {
-    within: u8,
-    longitude: u64,
-    latitude: i64,
-    metres: i64,
-}
-
-#[repr(C)]
-#[derive(Clone, Copy)]
-struct SolarSums {
-    within: u8,
-    longitude: i64,
-    latitude: i64,
-    radius: i64,
-}
-
-#[repr(C)]
-#[derive(Clone, Copy)]
-struct NutationSums {
-    within: u8,
-    longitude: i64,
-    obliquity: i64,
-    true_obliquity: i64,
-}
-
-extern "C" {
-    fn raddlehue_moon_sums(tt: i64) -> MoonSums;
-    fn raddlehue_sun_sums(tt: i64) -> SolarSums;
-    fn raddlehue_nutation(tt: i64) -> NutationSums;
-}
+mod archive;
+use archive::{raddlehue_moon_sums, raddlehue_nutation, raddlehue_sun_sums};
 
 // ---- the ordinary program
 

@@ -3,42 +3,8 @@ use std::env;
 use std::fs;
 use std::process::exit;
 
-#[repr(C)]
-struct MoonSums {
-    within: u8,
-    longitude: u64,
-    latitude: i64,
-    metres: i64,
-}
-
-#[repr(C)]
-struct SolarSums {
-    within: u8,
-    longitude: i64,
-    latitude: i64,
-    radius: i64,
-}
-
-#[repr(C)]
-struct NutationSums {
-    within: u8,
-    longitude: i64,
-    obliquity: i64,
-    true_obliquity: i64,
-}
-
-#[repr(C)]
-struct SiderealTime {
-    within: u8,
-    mean: u64,
-}
-
-extern "C" {
-    fn raddlehue_moon_sums(tt: i64) -> MoonSums;
-    fn raddlehue_sun_sums(tt: i64) -> SolarSums;
-    fn raddlehue_nutation(tt: i64) -> NutationSums;
-    fn raddlehue_mean_sidereal(ut: i64) -> SiderealTime;
-}
+mod archive;
+use archive::{raddlehue_mean_sidereal, raddlehue_moon_sums, raddlehue_nutation, raddlehue_sun_sums};
 
 // 1.011 centuries, in tenths of a second.
 const FURTHEST: i64 = 36_525 * 864_000 * 1011 / 1000;
