@@ -5,9 +5,9 @@
 use mathlib.Core.Bool.{Bool, false, not, true}
 use mathlib.Core.Path.{_∙_, _≡_, ap, refl, subst, subst⁻¹, sym}
 use Prim.Native.Nat.{_*_, _+_, _/_, _<_, _^_, _≤_, suc, zero, ℕ}
-use native.Mathlib.Nat.{le-refl}
+use native.Mathlib.Nat.{le-refl, le-trans}
 use native.Mathlib.Omega.{arith}
-use lib.Dec.{T, leb→le, ltb, ltb→lt, lt→ltb, nleb→lt}
+use lib.Dec.{T, leb, leb→le, ltb, ltb→lt, lt→ltb, nleb→lt}
 use lib.IntN.{+ℤ-idl, _*ℤ_, _+ℤ_, _-ℤ_, natAbs, negsuc, negℤ, pos, ℤ}
 use lib.Signed.{_<ℤ_, _≤ℤ_, clashℤ, leZ, leZ-yes, ltZ, ltZ-no, ltZ-yes, mag, natAbs-le, nonNeg, shrZ}
 use mir.Facts.{fits-natAbs}
@@ -16,7 +16,7 @@ use mir.Val.{Fits, SFits, ofZ, toZ}
 use mir.ValLaws.{toZ-ofZ, toZ-pos}
 use Rattle.arithmetic.specs.Floor.{⌊_÷_⌋}
 use Rattle.arithmetic.proofs.Difference.{#_, _⊟ℤ_, by-eq, ⟨_⟩}
-use Rattle.arithmetic.proofs.FloorLaws.{floor-most, shift-right}
+use Rattle.arithmetic.proofs.FloorLaws.{floor-most, floor-small, shift-right}
 use Rattle.arithmetic.proofs.Sizes.{abs-neg, add-bound, mul-bound, sub-bound}
 
 pub record Mirror : Type 0 where
@@ -253,3 +253,16 @@ not-zero (negsuc n) h = omega arith
 -- a bound on a parameter, as a callee is handed it
 pub handed : {x : ℤ} {m : ℕ} → SFits w64 x → natAbs x ≤ m → natAbs (toZ w64 (ofZ w64 x)) ≤ m
 handed {x} {m} f h = subst⁻¹ (λ (z : ℤ). natAbs z ≤ m) (toZ-ofZ w64 x f) h
+
+-- what a callee asks of a number that it is handed
+pub asked : (x : Mirror) {k : ℕ} → T (leb (x .most) k) → natAbs (x .machine) ≤ k
+asked x {k} t = rw (x .same) (le-trans (x .bound) (leb→le (x .most) k t))
+
+-- what a call gave, of which no more is known than that it fits
+abbrev pub some-gave : {r v : ℤ} → mag r < 2 ^ 63 → r ≡ v → Mirror
+some-gave {r} {v} ok e = gave {r = r} {v = v} ok e (subst (λ (z : ℤ). natAbs z ≤ 9223372036854775808) e (natAbs-le r ok))
+
+-- what a floor by a divisor that is not a numeral gave: no larger than what was divided
+abbrev pub small-floor-gave : {r : ℤ} (x : Mirror) (d : ℕ) → mag r < 2 ^ 63 → r ≡ ⌊ x .machine ÷ d ⌋ → Mirror
+small-floor-gave {r} x d f e =
+    gave {r = r} {v = ⌊ x .number ÷ d ⌋} {m = x .most} f (e ∙ ap (λ (z : ℤ). ⌊ z ÷ d ⌋) (x .same)) (le-trans (floor-small (x .number) d) (x .bound))

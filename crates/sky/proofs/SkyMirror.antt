@@ -16,8 +16,7 @@ use Rattle.numbers.specs.Angle.{full-turn}
 use Rattle.numbers.specs.Arctangent.{arctangent}
 use Rattle.numbers.specs.declared.sine.SineCosine.{SineCosine}
 use Rattle.numbers.proofs.ArctangentLaws.{arctangent-below}
-use Rattle.numbers.proofs.Machine.{Mirror, nat-fits, passed, told}
-use Rattle.sums.proofs.NarrowMirror.{asked}
+use Rattle.numbers.proofs.Machine.{Mirror, asked, nat-fits, passed, told}
 use Rattle.sky.specs.Product.{_·_}
 use Rattle.sky.specs.SkyRange.{OneAngle, Products, Within}
 use Rattle.sky.specs.declared.vector.Vector.{Vector}

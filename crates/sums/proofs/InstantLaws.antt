@@ -1,16 +1,14 @@
 -- Sizes of the powers of an accepted instant: little more than a million on either side of zero.
-use mathlib.Core.Path.{_∙_, _≡_, ap, refl, subst⁻¹}
-use Prim.Native.Nat.{_*_, _+_, _/_, _<_, _^_, _≤_, ℕ}
+use mathlib.Core.Path.{_≡_, refl, subst⁻¹}
+use Prim.Native.Nat.{_*_, _+_, _/_, _≤_, ℕ}
 use native.Mathlib.Nat.{le-refl, le-trans}
 use native.Mathlib.Omega.{arith}
 use lib.Dec.{T, leb, leb→le}
 use lib.IntN.{_*ℤ_, _+ℤ_, natAbs, pos, ℤ}
-use lib.Signed.{mag}
 use Rattle.arithmetic.specs.Floor.{⌊_÷_⌋}
-use Rattle.arithmetic.proofs.FloorLaws.{floor-most, floor-small}
+use Rattle.arithmetic.proofs.FloorLaws.{floor-most}
 use Rattle.arithmetic.proofs.Sizes.{mul-bound}
 use Rattle.numbers.specs.Angle.{full-turn}
-use Rattle.numbers.proofs.Machine.{Mirror, gave}
 use Rattle.numbers.proofs.SineLaws.{reduced-below}
 use Rattle.sums.specs.Instant.{Reached, century, day, furthest, minus, p2, p3, p4, powers, u, value}
 use Rattle.sums.specs.Sidereal.{mean}
@@ -37,11 +35,6 @@ module _ (n : ℤ) (h : natAbs n ≤ furthest) where
   pub p4-most : natAbs (p4 n) ≤ 1_044_738
   unfolding p4
   p4-most = floor-size (p2 n *ℤ p2 n) 1_000_000 (mul-bound (p2 n) (p2 n) p2-most p2-most) tt
-
--- what a floor by a divisor that is not a numeral gave: no larger than what was divided
-abbrev pub small-floor-gave : {r : ℤ} (x : Mirror) (d : ℕ) → mag r < 2 ^ 63 → r ≡ ⌊ x .machine ÷ d ⌋ → Mirror
-small-floor-gave {r} x d f e =
-    gave {r = r} {v = ⌊ x .number ÷ d ⌋} {m = x .most} f (e ∙ ap (λ (z : ℤ). ⌊ z ÷ d ⌋) (x .same)) (le-trans (floor-small (x .number) d) (x .bound))
 
 pub value-small : (p : Polynomial) (n : ℤ) → value p n ≤ full-turn
 unfolding value

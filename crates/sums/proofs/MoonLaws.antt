@@ -19,7 +19,7 @@ use Rattle.numbers.proofs.Machine.{Mirror, gave}
 use Rattle.numbers.proofs.SineSize.{cosine-most, sine-most}
 use Rattle.sums.specs.Instant.{furthest, minus, p2, u}
 use Rattle.sums.specs.Moon.{E, E2, added, arguments, cosine-term, eccentricity, row-angle, sine-term, weight}
-use Rattle.sums.specs.MoonRange.{Slight, Summable, Turns, spread}
+use Rattle.sums.specs.MoonRange.{Slight, Summable, Turns, row-bounds, spread}
 use Rattle.sums.specs.MoonTerms.{L′, M′, latitude-terms, longitude-distance-terms}
 use Rattle.sums.specs.Table.{column, count, total}
 use Rattle.sums.specs.declared.moon.Eccentricity.{Eccentricity}
@@ -82,18 +82,15 @@ module _ (n : ℤ) (h : natAbs n ≤ furthest) where
   eccentricity-slight = record { once = le-trans E-most (leb→le 1_003_000 (2 ^ 20) tt); twice = E2-most }
 
 -- a table, by one test
-abbrev bounds : List ℕ
-bounds = 4 ∷ 4 ∷ 4 ∷ 4 ∷ 2 ^ 25 ∷ 2 ^ 25 ∷ []
-
 abbrev fits-test : List (List ℤ) → Bool
-fits-test terms = every (bounded-test bounds) [] 0 terms && (leb (count (spread 4) terms) (2 ^ 62) && leb (count (spread 5) terms) (2 ^ 62))
+fits-test terms = every (bounded-test row-bounds) [] 0 terms && (leb (count (spread 4) terms) (2 ^ 62) && leb (count (spread 5) terms) (2 ^ 62))
 
 summable : (terms : List (List ℤ)) → T (fits-test terms) → Summable terms
 summable terms t =
-    let t₁ = and-yes (every (bounded-test bounds) [] 0 terms) _ t in
+    let t₁ = and-yes (every (bounded-test row-bounds) [] 0 terms) _ t in
     let t₂ = and-yes (leb (count (spread 4) terms) (2 ^ 62)) _ (t₁ .1) in
     record {
-      each = bounded-rows bounds terms (t₁ .0);
+      each = bounded-rows row-bounds terms (t₁ .0);
       by-sine = leb→le (count (spread 4) terms) (2 ^ 62) (t₂ .0);
       by-cosine = leb→le (count (spread 5) terms) (2 ^ 62) (t₂ .1);
     }

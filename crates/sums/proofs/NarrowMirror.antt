@@ -1,15 +1,13 @@
 -- Numbers of 32 bits read from a table's row and widened to 64: what the machine computes of them, as a `Mirror`.
-use mathlib.Core.Path.{_∙_, _≡_, subst, subst⁻¹}
-use Prim.Native.Nat.{_<_, _^_, _≤_, ℕ}
-use native.Mathlib.Nat.{le-trans}
+use mathlib.Core.Path.{_∙_, _≡_, subst⁻¹}
+use Prim.Native.Nat.{_^_, _≤_, ℕ}
 use native.Mathlib.Omega.{arith}
-use lib.Dec.{T, leb, leb→le, ltb, ltb→lt, lt→ltb}
+use lib.Dec.{T, ltb, ltb→lt, lt→ltb}
 use lib.IntN.{natAbs, ℤ}
-use lib.Signed.{mag, natAbs-le}
 use mir.Syntax.{w32, w64}
 use mir.Val.{SFits, ofZ, toZ}
 use mir.ValLaws.{toZ-ofZ}
-use Rattle.numbers.proofs.Machine.{Mirror, abs-fits, gave, mag-le}
+use Rattle.numbers.proofs.Machine.{Mirror, abs-fits, mag-le}
 
 module _ (x : ℤ) {m : ℕ} (h : natAbs x ≤ m) (t : T (ltb m (2 ^ 31))) where
   narrow-fits : SFits w32 x
@@ -30,11 +28,3 @@ module _ (x : ℤ) {m : ℕ} (h : natAbs x ≤ m) (t : T (ltb m (2 ^ 31))) where
     same = toZ-ofZ w64 (toZ w32 (ofZ w32 x)) widened ∙ narrow-same;
     bound = h;
   }
-
--- what a callee asks of a number that it is handed
-pub asked : (x : Mirror) {k : ℕ} → T (leb (x .most) k) → natAbs (x .machine) ≤ k
-asked x {k} t = rw (x .same) (le-trans (x .bound) (leb→le (x .most) k t))
-
--- what a call gave, of which no more is known than that it fits
-abbrev pub some-gave : {r v : ℤ} → mag r < 2 ^ 63 → r ≡ v → Mirror
-some-gave {r} {v} ok e = gave {r = r} {v = v} ok e (subst (λ (z : ℤ). natAbs z ≤ 9223372036854775808) e (natAbs-le r ok))

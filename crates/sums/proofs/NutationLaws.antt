@@ -14,7 +14,7 @@ use Rattle.numbers.proofs.SineSize.{cosine-most, sine-most}
 use Rattle.sums.specs.Instant.{furthest, u}
 use Rattle.sums.specs.MoonRange.{Turns}
 use Rattle.sums.specs.Nutation.{arguments, cosine-term, row-angle, sine-term, weight, Δε, Δψ}
-use Rattle.sums.specs.NutationRange.{Summable, spread}
+use Rattle.sums.specs.NutationRange.{Summable, row-bounds, spread}
 use Rattle.sums.specs.NutationTerms.{X0, X1, X2, X3, X4, nutation-terms}
 use Rattle.sums.specs.Table.{column, count, total}
 use Rattle.sums.proofs.InstantLaws.{floor-size, u-most, value-small}
@@ -66,13 +66,10 @@ arguments-turn n = record { within = go }
     go (suc (suc (suc (suc (suc i))))) = zero-le
 
 -- the table, by one test
-abbrev bounds : List ℕ
-bounds = 3 ∷ 3 ∷ 3 ∷ 3 ∷ 3 ∷ 2 ^ 18 ∷ 2 ^ 18 ∷ 2 ^ 18 ∷ 2 ^ 18 ∷ []
-
 pub nutation-fits : Summable nutation-terms
 unfolding nutation-terms bounded-test count
 nutation-fits = record {
-  each = bounded-rows bounds nutation-terms tt;
+  each = bounded-rows row-bounds nutation-terms tt;
   by-sine = leb→le (count (spread 5 6) nutation-terms) (2 ^ 57) tt;
   by-cosine = leb→le (count (spread 7 8) nutation-terms) (2 ^ 57) tt;
 }

@@ -14,8 +14,11 @@ pub record Slight (e : Eccentricity) : Type 0 where
   pub once : natAbs (e .e) ≤ 2 ^ 20
   pub twice : natAbs (e .e2) ≤ 2 ^ 20
 
+abbrev pub row-bounds : List ℕ
+row-bounds = 4 ∷ 4 ∷ 4 ∷ 4 ∷ 2 ^ 25 ∷ 2 ^ 25 ∷ []
+
 abbrev pub SmallRow : List ℤ → Type 0
-SmallRow row = Bounded (4 ∷ 4 ∷ 4 ∷ 4 ∷ 2 ^ 25 ∷ 2 ^ 25 ∷ []) row
+SmallRow row = Bounded row-bounds row
 
 abbrev pub spread : ℕ → List ℤ → ℕ
 spread i row = (105 * natAbs (column row i) + 1) * 1_000_000_001

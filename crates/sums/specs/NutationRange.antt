@@ -5,8 +5,11 @@ use lib.IntN.{ℤ, natAbs}
 use lib.ListN.{getD, length}
 use Rattle.sums.specs.Table.{Bounded, column, count}
 
+abbrev pub row-bounds : List ℕ
+row-bounds = 3 ∷ 3 ∷ 3 ∷ 3 ∷ 3 ∷ 2 ^ 18 ∷ 2 ^ 18 ∷ 2 ^ 18 ∷ 2 ^ 18 ∷ []
+
 abbrev pub SmallRow : List ℤ → Type 0
-SmallRow row = Bounded (3 ∷ 3 ∷ 3 ∷ 3 ∷ 3 ∷ 2 ^ 18 ∷ 2 ^ 18 ∷ 2 ^ 18 ∷ 2 ^ 18 ∷ []) row
+SmallRow row = Bounded row-bounds row
 
 abbrev pub spread : ℕ → ℕ → List ℤ → ℕ
 spread i j row = (10 * natAbs (column row i) + 2 * natAbs (column row j) + 1) * 1_000_000_001

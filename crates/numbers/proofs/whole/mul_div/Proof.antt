@@ -5,13 +5,12 @@ use native.Mathlib.Nat.{le-trans}
 use native.Mathlib.Omega.{arith}
 use lib.Dec.{lit<}
 use lib.IntN.{_*ℤ_, _+ℤ_, natAbs, pos, ℤ}
-use lib.Signed.{mag}
 use mir.Syntax.{w64}
 use mir.Val.{toZ}
 use Rattle.arithmetic.specs.Floor.{_modulo_, ⌊_÷_⌋}
 use Rattle.arithmetic.proofs.FloorLaws.{floor-small, left-small, modulo-below}
 use Rattle.arithmetic.proofs.Sizes.{abs-mul}
-use Rattle.numbers.proofs.Machine.{Mirror, _⊕_, _⊖_, _⊗_, arg, bounded, fits, from-nat, gave, kept, lit, nat-fits, shr-by}
+use Rattle.numbers.proofs.Machine.{Mirror, _⊕_, _⊖_, _⊗_, arg, bounded, fits, from-nat, kept, lit, nat-fits, shr-by, small-floor-gave}
 use Rattle.numbers.proofs.WideProduct.{base, other-part, upper, upper-floor, wide-floor}
 use Rattle.numbers.proofs.whole.mul_div.Statement.{statement}
 use Rattle.numbers.proofs.whole.mul_div.Tie as tie
@@ -75,12 +74,6 @@ module _ (c : tie.After-floor-mod) where
   abbrev second-mirror : Mirror
   second-mirror = kept (first-rest ⊗ lit (pos base)) tt ⊕ kept (kept (middle-mirror s₁) tt ⊗ n-mirror s₁) tt
 
--- a floor by d that a call gave
-module _ (s : tie.Start) (x : Mirror) where
-  abbrev quotient-mirror : (r : ℤ) → mag r < 2 ^ 63 → r ≡ ⌊ x .machine ÷ s .args .d ⌋ → Mirror
-  quotient-mirror r f e =
-      gave f (e ∙ ap (λ (z : ℤ). ⌊ z ÷ s .args .d ⌋) (x .same)) (le-trans (floor-small (x .number) (s .args .d)) (x .bound))
-
 module _ (c : tie.After-floor-mod2) where
   abbrev s₂ : tie.Start
   s₂ = c .before .before
@@ -111,7 +104,7 @@ module _ (c : tie.After-floor-mod2) where
 
 abbrev top-term : tie.After-floor-div → Mirror
 top-term c =
-    bounded (quotient-mirror (s₂ (c .before)) (kept (first-mirror (s₂ (c .before))) tt) (c .floor-div .result) (c .floor-div .ok) (c .floor-div .ensures) ⊗ lit (pos base))
+    bounded (small-floor-gave (kept (first-mirror (s₂ (c .before))) tt) (d₀ (s₂ (c .before))) (c .floor-div .ok) (c .floor-div .ensures) ⊗ lit (pos base))
     (top-times (c .before))
 
 module _ (c : tie.After-floor-div2) where
@@ -122,7 +115,7 @@ module _ (c : tie.After-floor-div2) where
   upper-sum =
       bounded
       (kept (top-term (c .before)) tt
-      ⊕ quotient-mirror (s₂ m₂) (kept (second-mirror (m₂ .before)) tt) (c .floor-div2 .result) (c .floor-div2 .ok) (c .floor-div2 .ensures))
+      ⊕ small-floor-gave (kept (second-mirror (m₂ .before)) tt) (d₀ (s₂ m₂)) (c .floor-div2 .ok) (c .floor-div2 .ensures))
       (subst (λ (z : ℤ). natAbs z ≤ 2 ^ 62) (sym (upper-floor (c₀ (s₂ m₂)) (n₀ (s₂ m₂)) (d₀ (s₂ m₂)) (s₂ m₂ .pre .above))) (upper-small m₂))
 
   abbrev upper-term : Mirror
@@ -137,7 +130,7 @@ module _ (c : tie.After-floor-div3) where
   abbrev sum : Mirror
   sum =
       kept (upper-term (c .before)) tt
-      ⊕ quotient-mirror (s₂ m₃) (kept (third-mirror m₃) tt) (c .floor-div3 .result) (c .floor-div3 .ok) (c .floor-div3 .ensures)
+      ⊕ small-floor-gave (kept (third-mirror m₃) tt) (d₀ (s₂ m₃)) (c .floor-div3 .ok) (c .floor-div3 .ensures)
 
   is-quotient : sum .number ≡ ⌊ c₀ (s₂ m₃) *ℤ n₀ (s₂ m₃) ÷ d₀ (s₂ m₃) ⌋
   is-quotient =

@@ -1,8 +1,7 @@
 -- `sky::horizon::azimuth` meets its contract.
 use mathlib.Core.Path.{refl}
 use borrow.Author.Needs.{needs}
-use Rattle.numbers.proofs.Machine.{Mirror}
-use Rattle.sums.proofs.NarrowMirror.{some-gave}
+use Rattle.numbers.proofs.Machine.{Mirror, some-gave}
 use Rattle.sky.specs.Horizon.{azimuth}
 use Rattle.sky.proofs.SkyMirror.{angle-fits, angle-gave}
 use Rattle.sky.proofs.horizon.azimuth.Statement.{statement}

@@ -8,9 +8,8 @@ use mir.Val.{Fits, SFits, toZ}
 use mir.ValLaws.{toZ-pos}
 use borrow.Author.Needs.{needs}
 use Rattle.numbers.specs.Root.{root}
-use Rattle.numbers.proofs.Machine.{Mirror, _⊗_, fits, kept, nat-fits, passed}
+use Rattle.numbers.proofs.Machine.{Mirror, _⊗_, asked, fits, kept, nat-fits, passed}
 use Rattle.numbers.proofs.RootLaws.{root-most}
-use Rattle.sums.proofs.NarrowMirror.{asked}
 use Rattle.sky.specs.Horizon.{clamped, elevation, level, lowered}
 use Rattle.sky.specs.SkyRange.{Seen}
 use Rattle.sky.specs.declared.horizon.Horizon.{Horizon}

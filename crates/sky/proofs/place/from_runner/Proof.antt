@@ -1,8 +1,7 @@
 -- `sky::place::from_runner` meets its contract: each call's equation, put into the next.
 use mathlib.Core.Path.{_∙_, _≡_, ap, ap₂, refl, subst⁻¹}
 use borrow.Author.Needs.{needs}
-use Rattle.numbers.proofs.Machine.{Mirror, passed}
-use Rattle.sums.proofs.NarrowMirror.{asked}
+use Rattle.numbers.proofs.Machine.{Mirror, asked, passed}
 use Rattle.sky.specs.Horizon.{horizon}
 use Rattle.sky.specs.Observer.{observer, shifted}
 use Rattle.sky.specs.Place.{from-runner}

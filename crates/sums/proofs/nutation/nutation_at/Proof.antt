@@ -5,7 +5,7 @@ use native.Mathlib.Nat.{le-trans}
 use lib.Dec.{leb→le}
 use lib.IntN.{natAbs, pos, ℤ}
 use borrow.Author.Needs.{needs}
-use Rattle.numbers.proofs.Machine.{Mirror, _⊗_, fits, floor-gave, kept, lit, told}
+use Rattle.numbers.proofs.Machine.{Mirror, _⊗_, asked, fits, floor-gave, kept, lit, told}
 use Rattle.sums.specs.Instant.{u}
 use Rattle.sums.specs.MoonRange.{Turns}
 use Rattle.sums.specs.Nutation.{arguments, cosine-term, sine-term, Δε, Δψ}
@@ -14,7 +14,6 @@ use Rattle.sums.specs.NutationTerms.{nutation-terms}
 use Rattle.sums.specs.Table.{total}
 use Rattle.sums.specs.declared.instant.Powers.{Powers}
 use Rattle.sums.proofs.InstantLaws.{u-most}
-use Rattle.sums.proofs.NarrowMirror.{asked}
 use Rattle.sums.proofs.NutationLaws.{arguments-turn, by-cosine-small, by-sine-small, nutation-fits}
 use Rattle.sums.proofs.nutation.nutation_at.Statement.{statement}
 use Rattle.sums.proofs.nutation.nutation_at.Tie as tie
