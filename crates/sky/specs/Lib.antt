@@ -1,3 +1,4 @@
+pub mod Refusal
 pub mod Heading
 pub mod Product
 pub mod Vector
