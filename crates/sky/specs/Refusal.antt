@@ -7,7 +7,7 @@ use lib.IntN.{ℤ}
 use lib.Signed.{leZ}
 
 -- n is given when not: 0 where the check passes
-infix 35 _unless_
+infix 68 _unless_
 abbrev pub _unless_ : ℕ → Bool → ℕ
 n unless passes = cond passes 0 n
 
