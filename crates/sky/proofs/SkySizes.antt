@@ -19,8 +19,8 @@ use Rattle.sky.specs.Product.{_·_, sine-cosine}
 use Rattle.sky.specs.SkyRange.{Near, OneAngle, Seen, Viewed, Within}
 use Rattle.sky.specs.Vector.{equatorial, meridian, unit-vector}
 use Rattle.sky.specs.declared.observer.Observer.{Observer}
-use Rattle.sky.specs.declared.place.Body.{Body}
-use Rattle.sky.specs.declared.place.Point.{Point}
+use Rattle.sky.specs.declared.geocentric.Geocentric.{Geocentric}
+use Rattle.sky.specs.declared.station.Station.{Station}
 use Rattle.sky.specs.declared.vector.Vector.{Vector}
 
 pub one-angle : (x : ℤ) → OneAngle (sine-cosine x)
@@ -136,16 +136,16 @@ widen {m} {n} t w =
     record { x-size = le-trans (w .x-size) l; y-size = le-trans (w .y-size) l; z-size = le-trans (w .z-size) l }
 
 -- ---- the whole of it
-module _ (body : Body) (point : Point) where
-  pub centre-within : Within 2_028_000_000 (from-centre body point)
+module _ (body : Geocentric) (station : Station) where
+  pub centre-within : Within 2_028_000_000 (from-centre body station)
   unfolding from-centre
   centre-within =
-      meridian-within (one-angle (point .sidereal))
-      (equatorial-within (one-angle (point .obliquity)) (unit-within (one-angle (body .longitude)) (one-angle (body .latitude))))
+      meridian-within (one-angle (station .sidereal))
+      (equatorial-within (one-angle (station .obliquity)) (unit-within (one-angle (body .longitude)) (one-angle (body .latitude))))
 
-  pub runner-near : Viewed body point → Near (observer (sine-cosine (point .latitude)) (point .height))
-  runner-near k = observer-near (point .height) (one-angle (point .latitude)) (k .height-size)
+  pub runner-near : Viewed body station → Near (observer (sine-cosine (station .latitude)) (station .height))
+  runner-near k = observer-near (station .height) (one-angle (station .latitude)) (k .height-size)
 
-  pub runner-seen : Viewed body point → Seen (from-runner body point)
+  pub runner-seen : Viewed body station → Seen (from-runner body station)
   unfolding from-runner
-  runner-seen k = horizon-seen (one-angle (point .latitude)) (shifted-within (body .parallax) (k .parallax-size) (runner-near k) centre-within)
+  runner-seen k = horizon-seen (one-angle (station .latitude)) (shifted-within (body .parallax) (k .parallax-size) (runner-near k) centre-within)

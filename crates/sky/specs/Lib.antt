@@ -1,9 +1,12 @@
 pub mod Refusal
+pub mod Request
 pub mod Heading
 pub mod Product
 pub mod Vector
 pub mod Observer
 pub mod Horizon
+pub mod Geocentric
+pub mod Station
 pub mod Place
 pub mod SkyRange
 pub mod Cases

@@ -1,26 +1,35 @@
 -- From the centre to the runner (01, the section of that name).
+use Rattle.sums.specs.declared.instant.Instant.{Instant}
+use Rattle.sky.specs.Geocentric.{geocentric}
 use Rattle.sky.specs.Horizon.{azimuth, elevation, horizon}
 use Rattle.sky.specs.Observer.{observer, shifted}
 use Rattle.sky.specs.Product.{sine-cosine}
+use Rattle.sky.specs.Station.{station}
 use Rattle.sky.specs.Vector.{equatorial, meridian, unit-vector}
 use Rattle.sky.specs.declared.horizon.Horizon.{Horizon}
-use Rattle.sky.specs.declared.place.Body.{Body}
+use Rattle.sky.specs.declared.geocentric.Geocentric.{Geocentric}
 use Rattle.sky.specs.declared.place.Place.{Place}
-use Rattle.sky.specs.declared.place.Point.{Point}
+use Rattle.sky.specs.declared.request.Body.{Body}
+use Rattle.sky.specs.declared.request.Point.{Point}
+use Rattle.sky.specs.declared.station.Station.{Station}
 use Rattle.sky.specs.declared.vector.Vector.{Vector}
 
 -- the unit vector, by the obliquity and by θ = sidereal + longitude
-unfoldable pub from-centre : Body → Point → Vector
-from-centre body point =
-    meridian (sine-cosine (point .sidereal))
-    (equatorial (sine-cosine (point .obliquity)) (unit-vector (sine-cosine (body .longitude)) (sine-cosine (body .latitude))))
+unfoldable pub from-centre : Geocentric → Station → Vector
+from-centre body station =
+    meridian (sine-cosine (station .sidereal))
+    (equatorial (sine-cosine (station .obliquity)) (unit-vector (sine-cosine (body .longitude)) (sine-cosine (body .latitude))))
 
 -- less the parallax times the observer; up, north and east
-unfoldable pub from-runner : Body → Point → Horizon
-from-runner body point =
-    let φ = sine-cosine (point .latitude) in
-    horizon φ (shifted (body .parallax) (observer φ (point .height)) (from-centre body point))
+unfoldable pub from-runner : Geocentric → Station → Horizon
+from-runner body station =
+    let φ = sine-cosine (station .latitude) in
+    horizon φ (shifted (body .parallax) (observer φ (station .height)) (from-centre body station))
 
 -- azimuth and elevation
-unfoldable pub place : Body → Point → Place
-place body point = record { azimuth = azimuth (from-runner body point); elevation = elevation (from-runner body point) }
+unfoldable pub place : Geocentric → Station → Place
+place body station = record { azimuth = azimuth (from-runner body station); elevation = elevation (from-runner body station) }
+
+-- of a body at an instant, from a point on Earth
+unfoldable pub place-at : Body → Point → Instant → Place
+place-at body point instant = place (geocentric body (instant .tt)) (station point (instant .ut) (instant .tt))

@@ -3,9 +3,12 @@ use Prim.Native.Nat.{_+_, _≤_, ℕ}
 use lib.IntN.{natAbs, ℤ}
 use Rattle.numbers.specs.declared.sine.SineCosine.{SineCosine}
 use Rattle.sky.specs.declared.horizon.Horizon.{Horizon}
+use Rattle.sums.specs.Instant.{furthest}
+use Rattle.sums.specs.declared.instant.Instant.{Instant}
 use Rattle.sky.specs.declared.observer.Observer.{Observer}
-use Rattle.sky.specs.declared.place.Body.{Body}
-use Rattle.sky.specs.declared.place.Point.{Point}
+use Rattle.sky.specs.declared.request.Point.{Point}
+use Rattle.sky.specs.declared.geocentric.Geocentric.{Geocentric}
+use Rattle.sky.specs.declared.station.Station.{Station}
 use Rattle.sky.specs.declared.vector.Vector.{Vector}
 
 -- what any sine and cosine of one angle keep to
@@ -34,6 +37,16 @@ pub record Seen (h : Horizon) : Type 0 where
   pub north-size : natAbs (h .north) ≤ 3_000_000_000
   pub east-size : natAbs (h .east) ≤ 3_000_000_000
 
-pub record Viewed (body : Body) (point : Point) : Type 0 where
+pub record Viewed (body : Geocentric) (station : Station) : Type 0 where
   pub parallax-size : natAbs (body .parallax) ≤ 20_000_000
+  pub height-size : natAbs (station .height) ≤ 9_000
+
+-- what 7 to 9 let pass
+pub record OnEarth (point : Point) : Type 0 where
+  pub longitude-size : natAbs (point .longitude) ≤ 1_800_000_000
+  pub latitude-size : natAbs (point .latitude) ≤ 900_000_000
   pub height-size : natAbs (point .height) ≤ 9_000
+
+pub record Reachable (instant : Instant) : Type 0 where
+  pub ut-near : natAbs (instant .ut) ≤ furthest
+  pub tt-near : natAbs (instant .tt) ≤ furthest

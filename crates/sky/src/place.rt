@@ -1,34 +1,28 @@
-// The place of a body whose longitude, latitude and parallax are known.
+// The place of a body seen from where the runner stands.
+use super::geocentric::Geocentric;
+use super::geocentric::geocentric_at;
 use super::horizon::Horizon;
 use super::horizon::azimuth;
 use super::horizon::elevation;
 use super::horizon::horizon_at;
 use super::observer::observer_at;
 use super::observer::shifted;
+use super::request::Body;
+use super::request::Point;
+use super::station::Station;
+use super::station::station_at;
 use super::vector::Vector;
 use super::vector::equatorial;
 use super::vector::meridian;
 use super::vector::unit_vector;
 use numbers::sine::sine_cosine_in;
+use sums::instant::Instant;
+use sums::instant::powers_at;
+use sums::nutation::nutation_at;
 ghost use mathlib.Core.Path.{_≡_};
 ghost use Rattle.numbers.specs.SineTable.{sines};
-ghost use Rattle.sky.specs.Place.{from-centre, from-runner, place};
-ghost use Rattle.sky.specs.SkyRange.{Viewed};
-
-// Seen from the Earth's centre.
-pub struct Body {
-    pub longitude: i64,
-    pub latitude: i64,
-    pub parallax: i64,
-}
-
-// Where the runner stands: the sidereal angle θ there, the obliquity, the latitude φ, and the height in metres.
-pub struct Point {
-    pub sidereal: i64,
-    pub obliquity: i64,
-    pub latitude: i64,
-    pub height: i64,
-}
+ghost use Rattle.sky.specs.Place.{from-centre, from-runner, place, place-at};
+ghost use Rattle.sky.specs.SkyRange.{Viewed, OnEarth, Reachable};
 
 pub struct Place {
     pub azimuth: i64,
@@ -36,14 +30,14 @@ pub struct Place {
 }
 
 // The vector from the Earth's centre, on the runner's meridian.
-fn from_centre(table: &[u32; 361], body: Body, point: Point) -> Vector
+fn from_centre(table: &[u32; 361], body: Geocentric, station: Station) -> Vector
     requires { ⌜ now table ≡ sines ⌝ }
-    ensures { λ r. ⌜ r ≡ from-centre body point ⌝ }
+    ensures { λ r. ⌜ r ≡ from-centre body station ⌝ }
 {
     let longitude = body.longitude;
     let latitude = body.latitude;
-    let sidereal = point.sidereal;
-    let obliquity = point.obliquity;
+    let sidereal = station.sidereal;
+    let obliquity = station.obliquity;
     let l = sine_cosine_in(table, longitude);
     let t = sine_cosine_in(table, latitude);
     let h = sine_cosine_in(table, sidereal);
@@ -52,26 +46,39 @@ fn from_centre(table: &[u32; 361], body: Body, point: Point) -> Vector
 }
 
 // The same from where the runner stands: up, north and east.
-fn from_runner(table: &[u32; 361], body: Body, point: Point) -> Horizon
-    requires { ⌜ (now table ≡ sines) × Viewed body point ⌝ }
-    ensures { λ r. ⌜ r ≡ from-runner body point ⌝ }
+fn from_runner(table: &[u32; 361], body: Geocentric, station: Station) -> Horizon
+    requires { ⌜ (now table ≡ sines) × Viewed body station ⌝ }
+    ensures { λ r. ⌜ r ≡ from-runner body station ⌝ }
 {
     let parallax = body.parallax;
-    let latitude = point.latitude;
-    let height = point.height;
-    let v = from_centre(table, body, point);
+    let latitude = station.latitude;
+    let height = station.height;
+    let v = from_centre(table, body, station);
     let l = sine_cosine_in(table, latitude);
     let o = observer_at(table, l, height);
     horizon_at(l, shifted(parallax, o, v))
 }
 
-pub fn place_of(table: &[u32; 361], body: Body, point: Point) -> Place
-    requires { ⌜ (now table ≡ sines) × Viewed body point ⌝ }
-    ensures { λ r. ⌜ r ≡ place body point ⌝ }
+pub fn place_of(table: &[u32; 361], body: Geocentric, station: Station) -> Place
+    requires { ⌜ (now table ≡ sines) × Viewed body station ⌝ }
+    ensures { λ r. ⌜ r ≡ place body station ⌝ }
 {
-    let h = from_runner(table, body, point);
+    let h = from_runner(table, body, station);
     Place {
         azimuth: azimuth(h),
         elevation: elevation(h),
     }
+}
+
+// At an instant, from a point on Earth.
+pub fn place_at(table: &[u32; 361], body: Body, point: Point, instant: Instant) -> Place
+    requires { ⌜ (now table ≡ sines) × (OnEarth point × Reachable instant) ⌝ }
+    ensures { λ r. ⌜ r ≡ place-at body point instant ⌝ }
+{
+    let ut = powers_at(instant.ut);
+    let tt = powers_at(instant.tt);
+    let nutation = nutation_at(table, tt);
+    let centre = geocentric_at(table, body, tt, nutation.longitude);
+    let station = station_at(table, point, ut, tt, nutation);
+    place_of(table, centre, station)
 }

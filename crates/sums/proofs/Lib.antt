@@ -6,6 +6,7 @@ pub mod MoonLaws
 pub mod NutationLaws
 pub mod SunLaws
 pub mod Distances
+pub mod PlaceSizes
 pub mod FloorsNear
 pub mod WeightedSum
 pub mod AnglesNear

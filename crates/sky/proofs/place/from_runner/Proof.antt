@@ -17,24 +17,24 @@ module _ (a : tie.Start) where
   parallax = field (a .args .body .parallax) (a .pre .1 .parallax-size) tt
 
   abbrev height : Mirror
-  height = field (a .args .point .height) (a .pre .1 .height-size) tt
+  height = field (a .args .station .height) (a .pre .1 .height-size) tt
 
 module _ (c : tie.After-sine-cosine-in) where
   abbrev a : tie.Start
   a = c .before .before .before .before .before
 
-  latitude-is : c .sine-cosine-in .result ≡ sine-cosine (a .args .point .latitude)
+  latitude-is : c .sine-cosine-in .result ≡ sine-cosine (a .args .station .latitude)
   latitude-is = gave-sine-cosine _ (c .sine-cosine-in .ensures) ∙ ap sine-cosine (passed (c .before .before .before .struct-told2 .given .1 .1 .0 .1) refl)
 
   centre-small : Within 2_028_000_000 (c .before .from-centre .result)
-  centre-small = subst⁻¹ (Within 2_028_000_000) (c .before .from-centre .ensures) (centre-within (a .args .body) (a .args .point))
+  centre-small = subst⁻¹ (Within 2_028_000_000) (c .before .from-centre .ensures) (centre-within (a .args .body) (a .args .station))
 
 module _ (c : tie.After-observer-at) where
-  observer-is : c .observer-at .result ≡ observer (sine-cosine (a (c .before) .args .point .latitude)) (a (c .before) .args .point .height)
+  observer-is : c .observer-at .result ≡ observer (sine-cosine (a (c .before) .args .station .latitude)) (a (c .before) .args .station .height)
   observer-is = c .observer-at .ensures ∙ ap₂ observer (latitude-is (c .before)) (height (a (c .before)) .same)
 
   observer-close : Near (c .observer-at .result)
-  observer-close = subst⁻¹ Near observer-is (runner-near (a (c .before) .args .body) (a (c .before) .args .point) (a (c .before) .pre .1))
+  observer-close = subst⁻¹ Near observer-is (runner-near (a (c .before) .args .body) (a (c .before) .args .station) (a (c .before) .pre .1))
 
 from-centre-requires : tie.Need-from-centre-requires
 from-centre-requires c κs = search needs

@@ -18,7 +18,7 @@ azimuth-requires c κs = search needs
 elevation-requires : tie.Need-elevation-requires
 elevation-requires c κs =
     let s = c .before .before in
-    subst⁻¹ Seen (c .before .from-runner .ensures) (runner-seen (s .args .body) (s .args .point) (s .pre .1))
+    subst⁻¹ Seen (c .before .from-runner .ensures) (runner-seen (s .args .body) (s .args .station) (s .pre .1))
 
 returns : tie.Need-returns
 unfolding place

@@ -1,0 +1,139 @@
+-- What a call of `is_between` told, and what checks that pass say: their numbers lie within bounds, and the start is accepted.
+use mathlib.Core.Bool.{Bool, _&&_, cond, false, true}
+use mathlib.Core.List.{List, [], _++_, _∷_}
+use mathlib.Core.Path.{_∙_, _≡_, ap, refl, subst⁻¹, sym}
+use Prim.Native.Nat.{_*_, _-_, _≤_, suc, ℕ}
+use native.Mathlib.Nat.{le-refl}
+use native.Mathlib.Omega.{arith}
+use lib.Dec.{T, eqb}
+use lib.IntN.{natAbs, negsuc, pos, ℤ}
+use lib.ListN.{drop}
+use lib.Signed.{_<ℤ_, _≤ℤ_, leZ, leZ-yes}
+use borrow.Author.Tests.{eqb-false, eqb-true}
+use mir.Facts.{and-yes}
+use mir.Syntax.{w64}
+use mir.Val.{SFits, ofZ, toZ}
+use mir.ValLaws.{toZ-ofZ}
+use Rattle.arithmetic.proofs.Difference.{#_, _⊞_, _⊠_, by-le, by-lt, to-le, to-lt, ⊟_, ⟨_⟩}
+use Rattle.numbers.proofs.CalendarLaws.{accepted-days}
+use Rattle.numbers.proofs.LimbLaws.{rest}
+use Rattle.numbers.proofs.WideProduct.{third}
+use Rattle.sky.specs.Refusal.{_else_, _unless_, between, first}
+use Rattle.sky.specs.Request.{date, delta-limit, elapsed, is-clock, start-refusals, ut1-limit}
+use Rattle.sky.specs.declared.request.Start.{Start}
+use Rattle.sums.specs.Instant.{Accepted, day, minus}
+use Rattle.sums.specs.Instant as Unit
+
+-- a test of a number that a callee was handed
+pub tested : (lo x hi : ℤ) {r : Bool} → SFits w64 x → r ≡ between lo (toZ w64 (ofZ w64 x)) hi → between lo x hi ≡ r
+tested lo x hi f e = sym (e ∙ ap (λ (z : ℤ). between lo z hi) (toZ-ofZ w64 x f))
+
+-- ---- a check that passes
+pub between-le : (lo x hi : ℤ) → between lo x hi ≡ true → (lo ≤ℤ x) × (x ≤ℤ hi)
+unfolding between
+between-le lo x hi e = let both = and-yes (leZ lo x) (leZ x hi) (subst⁻¹ T e tt) in (leZ-yes (both .0), leZ-yes (both .1))
+
+pub between-size : (a m : ℕ) (x : ℤ) → a ≤ m → between (minus a) x (pos m) ≡ true → natAbs x ≤ m
+between-size a m (pos n) h e = omega (arith, to-le (# n) (# m) (between-le (minus a) (pos n) (pos m) e .1))
+between-size a m (negsuc n) h e = omega (arith, to-le (⊟ (# a)) ⟨ negsuc n ⟩ (between-le (minus a) (negsuc n) (pos m) e .0))
+
+pub passes : (n : ℕ) (b : Bool) → suc n unless b ≡ 0 → b ≡ true
+passes n true e = refl
+passes n false e = absurd (omega arith)
+
+-- ---- a list of checks
+else-none : (n m : ℕ) → n else m ≡ 0 → (n ≡ 0) × (m ≡ 0)
+else-none n m e = go (eqb n 0) (eqb-true n 0) (eqb-false n 0) e
+  where
+    go : (b : Bool) → (b ≡ true → n ≡ 0) → (b ≡ false → n ≡ 0 → ⊥) → cond b m n ≡ 0 → (n ≡ 0) × (m ≡ 0)
+    go true is isn't e = (is refl, e)
+    go false is isn't e = absurd (isn't refl e)
+
+pub none : (n : ℕ) (rest : List ℕ) → first (n ∷ rest) ≡ 0 → (n ≡ 0) × (first rest ≡ 0)
+unfolding first
+none n rest e = else-none n (first rest) e
+
+pub first-append : (xs ys : List ℕ) → first (xs ++ ys) ≡ first xs else first ys
+unfolding first
+first-append [] ys = refl
+first-append (n ∷ xs) ys = go (eqb n 0) refl (first-append xs ys)
+  where
+    go : (b : Bool) → eqb n 0 ≡ b → first (xs ++ ys) ≡ first xs else first ys → n else first (xs ++ ys) ≡ (n else first xs) else first ys
+    go true e rest = rw e rest
+    go false e rest = rw (e, e) refl
+
+pub none-append : (xs ys : List ℕ) → first (xs ++ ys) ≡ 0 → (first xs ≡ 0) × (first ys ≡ 0)
+none-append xs ys e = else-none (first xs) (first ys) (sym (first-append xs ys) ∙ e)
+
+-- ---- the clock
+pub record Clock (s : Start) : Type 0 where
+  pub hour : between (pos 0) (s .hour) (pos 23) ≡ true
+  pub minute : between (pos 0) (s .minute) (pos 59) ≡ true
+  pub second : between (pos 0) (s .second) (pos 59) ≡ true
+  pub fraction : between (pos 0) (s .fraction) (pos (Unit.second - 1)) ≡ true
+
+both : (a b : Bool) → a && b ≡ true → (a ≡ true) × (b ≡ true)
+both true b e = (refl, e)
+both false b e = absurd (subst⁻¹ T e tt)
+
+pub clock : (s : Start) → is-clock s ≡ true → Clock s
+unfolding is-clock
+clock s e =
+    let h = between (pos 0) (s .hour) (pos 23) in
+    let m = between (pos 0) (s .minute) (pos 59) in
+    let t = between (pos 0) (s .second) (pos 59) in
+    let last = both (h && m && t) (between (pos 0) (s .fraction) (pos (Unit.second - 1))) e in
+    let third = both (h && m) t (last .0) in
+    let two = both h m (third .0) in
+    record { hour = two .0; minute = two .1; second = third .1; fraction = last .1 }
+
+elapsed-in-day : (s : Start) → Clock s → (pos 0 ≤ℤ elapsed s) × (elapsed s <ℤ pos day)
+unfolding elapsed
+elapsed-in-day s c =
+    let h = between-le (pos 0) (s .hour) (pos 23) (c .hour) in
+    let m = between-le (pos 0) (s .minute) (pos 59) (c .minute) in
+    let t = between-le (pos 0) (s .second) (pos 59) (c .second) in
+    let f = between-le (pos 0) (s .fraction) (pos (Unit.second - 1)) (c .fraction) in
+    let h₀ = to-le (# 0) ⟨ s .hour ⟩ (h .0) in
+    let h₁ = to-le ⟨ s .hour ⟩ (# 23) (h .1) in
+    let m₀ = to-le (# 0) ⟨ s .minute ⟩ (m .0) in
+    let m₁ = to-le ⟨ s .minute ⟩ (# 59) (m .1) in
+    let t₀ = to-le (# 0) ⟨ s .second ⟩ (t .0) in
+    let t₁ = to-le ⟨ s .second ⟩ (# 59) (t .1) in
+    let f₀ = to-le (# 0) ⟨ s .fraction ⟩ (f .0) in
+    let f₁ = to-le ⟨ s .fraction ⟩ (# (Unit.second - 1)) (f .1) in
+    let is = ((⟨ s .hour ⟩ ⊠ # 60 ⊞ ⟨ s .minute ⟩) ⊠ # 60 ⊞ ⟨ s .second ⟩) ⊠ # Unit.second ⊞ ⟨ s .fraction ⟩ in
+    (by-le (# 0) is (omega arith), by-lt is (# day) (omega arith))
+
+-- ---- an accepted start
+module _ (s : Start) (e : first (start-refusals s) ≡ 0) where
+  abbrev by-date : (date s .refusal ≡ 0) × (first (drop 1 (start-refusals s)) ≡ 0)
+  by-date = none (date s .refusal) (drop 1 (start-refusals s)) e
+
+  abbrev by-clock : (4 unless is-clock s ≡ 0) × (first (drop 2 (start-refusals s)) ≡ 0)
+  by-clock = none (4 unless is-clock s) (drop 2 (start-refusals s)) (by-date .1)
+
+  abbrev by-ut1 : (5 unless between (minus ut1-limit) (s .ut1) (pos ut1-limit) ≡ 0) × (first (drop 3 (start-refusals s)) ≡ 0)
+  by-ut1 = none (5 unless between (minus ut1-limit) (s .ut1) (pos ut1-limit)) (drop 3 (start-refusals s)) (by-clock .1)
+
+  abbrev by-delta : (6 unless between (minus delta-limit) (s .delta) (pos delta-limit) ≡ 0) × (first [] ≡ 0)
+  by-delta = none (6 unless between (minus delta-limit) (s .delta) (pos delta-limit)) [] (by-ut1 .1)
+
+  pub clock-passes : is-clock s ≡ true
+  clock-passes = passes 3 (is-clock s) (by-clock .0)
+
+  pub accepted : Accepted (date s .days) (elapsed s) (s .ut1) (s .delta)
+  accepted =
+      let days = accepted-days (s .year) (s .month) (s .day) (by-date .0) in
+      let within = elapsed-in-day s (clock s clock-passes) in
+      let last = to-le ⟨ date s .days ⟩ (# 36_889) (days .1) in
+      let before = to-lt ⟨ elapsed s ⟩ (# day) (within .1) in
+      record {
+        not-early = days .0;
+        from-midnight = within .0;
+        not-late = by-lt (# day ⊠ ⟨ date s .days ⟩ ⊞ ⟨ elapsed s ⟩) (# (36_890 * day)) (omega (arith, last, before));
+        ut1-small =
+            let size = between-size ut1-limit ut1-limit (s .ut1) (le-refl ut1-limit) (passes 4 (between (minus ut1-limit) (s .ut1) (pos ut1-limit)) (by-ut1 .0)) in
+            omega arith;
+        delta-small = between-size delta-limit delta-limit (s .delta) (le-refl delta-limit) (passes 5 (between (minus delta-limit) (s .delta) (pos delta-limit)) (by-delta .0));
+      }

@@ -1,0 +1,31 @@
+-- `request::date_of` meets its contract.
+use mathlib.Core.Path.{_∙_}
+use borrow.Author.Needs.{needs}
+use mir.Syntax.{w64}
+use mir.Val.{SFits}
+use Rattle.numbers.proofs.Machine.{any}
+use Rattle.numbers.specs.Calendar.{day-count}
+use Rattle.sky.specs.declared.request.Start.{Start}
+use Rattle.sky.proofs.request.date_of.Statement.{statement}
+use Rattle.sky.proofs.request.date_of.Tie as tie
+
+day-count-requires : tie.Need-day-count-requires
+day-count-requires c κs = search needs
+
+year-fits : (s : tie.Start) → SFits w64 (s .args .start .year)
+year-fits s = search needs
+
+month-fits : (s : tie.Start) → SFits w64 (s .args .start .month)
+month-fits s = search needs
+
+day-fits : (s : tie.Start) → SFits w64 (s .args .start .day)
+day-fits s = search needs
+
+returns : tie.Need-returns
+returns c =
+    let s = c .before .before .before .before in
+    c .day-count .ensures ∙ (λ i. day-count (any (year-fits s) .same i) (any (month-fits s) .same i) (any (day-fits s) .same i))
+
+pub date-of-spec : {M : Type 1} → statement M
+date-of-spec =
+    tie.close (tie.spec day-count-requires returns)

@@ -1,0 +1,55 @@
+-- A request and its numbered refusals (01, the section of that name): 1 to 9, and the instant of a start.
+use mathlib.Core.Bool.{Bool, _&&_}
+use mathlib.Core.List.{List, [], _++_, _∷_}
+use Prim.Native.Nat.{_*_, _-_, _/_, ℕ}
+use lib.IntN.{_*ℤ_, _+ℤ_, pos, ℤ}
+use Rattle.numbers.specs.Calendar.{DayAnswer, day-count}
+use Rattle.sums.specs.Instant.{day, minus, second, terrestrial-time, universal-time}
+use Rattle.sums.specs.declared.instant.Instant.{Instant}
+use Rattle.sky.specs.Refusal.{_unless_, between}
+use Rattle.sky.specs.declared.request.Point.{Point}
+use Rattle.sky.specs.declared.request.Start.{Start}
+
+-- hour 0-23, minute 0-59, second 0-59, tenth 0-9
+unfoldable pub is-clock : Start → Bool
+is-clock s =
+    between (pos 0) (s .hour) (pos 23) && between (pos 0) (s .minute) (pos 59) && between (pos 0) (s .second) (pos 59)
+    && between (pos 0) (s .fraction) (pos (second - 1))
+
+-- d = days from 2000-01-01, or 1 to 3
+abbrev pub date : Start → DayAnswer
+date s = day-count (s .year) (s .month) (s .day)
+
+-- UT1 minus UTC, -9 to 9 tenths; delta-T, -80,000 to 80,000 tenths
+abbrev pub ut1-limit : ℕ
+ut1-limit = 9 * second / 10
+
+abbrev pub delta-limit : ℕ
+delta-limit = 8_000 * second
+
+-- 1 to 6
+abbrev pub start-refusals : Start → List ℕ
+start-refusals s =
+    date s .refusal
+    ∷ 4 unless is-clock s
+    ∷ 5 unless between (minus ut1-limit) (s .ut1) (pos ut1-limit)
+    ∷ 6 unless between (minus delta-limit) (s .delta) (pos delta-limit)
+    ∷ []
+
+-- 7 to 9: longitude within ±1,800,000,000, latitude within ±900,000,000, height -500 to 9,000 m
+abbrev pub point-refusals : Point → List ℕ
+point-refusals p =
+    7 unless between (minus 1_800_000_000) (p .longitude) (pos 1_800_000_000)
+    ∷ 8 unless between (minus 900_000_000) (p .latitude) (pos 900_000_000)
+    ∷ 9 unless between (minus 500) (p .height) (pos 9_000)
+    ∷ []
+
+-- units of the day that have passed
+unfoldable pub elapsed : Start → ℤ
+elapsed s = ((s .hour *ℤ pos 60 +ℤ s .minute) *ℤ pos 60 +ℤ s .second) *ℤ pos second +ℤ s .fraction
+
+-- UT and TT of a start
+unfoldable pub instant : Start → Instant
+instant s =
+    let ut = universal-time (date s .days) (elapsed s) (s .ut1) in
+    record { ut = ut; tt = terrestrial-time ut (s .delta) }
