@@ -155,7 +155,7 @@ is-no : (b : Bool) → (T b → ⊥) → b ≡ false
 is-no true f = absurd (f tt)
 is-no false f = refl
 
-not-holds : {b : Bool} → b ≡ false → T (not b)
+pub not-holds : {b : Bool} → b ≡ false → T (not b)
 not-holds e = subst (λ (b : Bool). T (not b)) (sym e) tt
 
 leZ-no : (a b : ℤ) → T (not (leZ a b)) → b <ℤ a

@@ -1,6 +1,12 @@
 pub mod RequestLaws
+pub mod BatchLaws
 pub mod HeadingLaws
 pub mod SkySizes
-pub mod Parallax
 pub mod SkyMirror
+pub mod Parallax
+pub mod PlaceLaws
+pub mod DoubleMirror
+pub mod DoubleLaws
+pub mod RefractionLaws
+pub mod ZeroPressure
 pub mod CasesHold

@@ -5,7 +5,7 @@ use mathlib.Core.Path.{_∙_, _≡_, ap, refl, subst⁻¹, sym}
 use Prim.Native.Nat.{_*_, _-_, _≤_, suc, ℕ}
 use native.Mathlib.Nat.{le-refl}
 use native.Mathlib.Omega.{arith}
-use lib.Dec.{T, eqb}
+use lib.Dec.{T, eqb, lit≤}
 use lib.IntN.{natAbs, negsuc, pos, ℤ}
 use lib.ListN.{drop}
 use lib.Signed.{_<ℤ_, _≤ℤ_, leZ, leZ-yes}
@@ -16,11 +16,12 @@ use mir.Val.{SFits, ofZ, toZ}
 use mir.ValLaws.{toZ-ofZ}
 use Rattle.arithmetic.proofs.Difference.{#_, _⊞_, _⊠_, by-le, by-lt, to-le, to-lt, ⊟_, ⟨_⟩}
 use Rattle.numbers.proofs.CalendarLaws.{accepted-days}
-use Rattle.numbers.proofs.LimbLaws.{rest}
-use Rattle.numbers.proofs.WideProduct.{third}
 use Rattle.sky.specs.Refusal.{_else_, _unless_, between, first}
-use Rattle.sky.specs.Request.{date, delta-limit, elapsed, is-clock, start-refusals, ut1-limit}
+use Rattle.sky.specs.Request.{date, delta-limit, elapsed, instant, is-clock, point-refusals, start-refusals, ut1-limit}
+use Rattle.sky.specs.SkyRange.{OnEarth, Reachable}
+use Rattle.sky.specs.declared.request.Point.{Point}
 use Rattle.sky.specs.declared.request.Start.{Start}
+use Rattle.sums.proofs.AcceptedInstants.{terrestrial-near, universal-near}
 use Rattle.sums.specs.Instant.{Accepted, day, minus}
 use Rattle.sums.specs.Instant as Unit
 
@@ -137,3 +138,49 @@ module _ (s : Start) (e : first (start-refusals s) ≡ 0) where
             omega arith;
         delta-small = between-size delta-limit delta-limit (s .delta) (le-refl delta-limit) (passes 5 (between (minus delta-limit) (s .delta) (pos delta-limit)) (by-delta .0));
       }
+
+pub start-reachable : (s : Start) → first (start-refusals s) ≡ 0 → Reachable (instant s)
+unfolding instant
+start-reachable s e = record { ut-near = universal-near (accepted s e); tt-near = terrestrial-near (accepted s e) }
+
+-- ---- an accepted point
+pub on-earth : (p : Point) → first (point-refusals p) ≡ 0 → OnEarth p
+on-earth p e =
+    let longitude = none (7 unless between (minus 1_800_000_000) (p .longitude) (pos 1_800_000_000)) (drop 1 (point-refusals p)) e in
+    let latitude = none (8 unless between (minus 900_000_000) (p .latitude) (pos 900_000_000)) (drop 2 (point-refusals p)) (longitude .1) in
+    let height = none (9 unless between (minus 500) (p .height) (pos 9_000)) [] (latitude .1) in
+    record {
+      longitude-size =
+          between-size 1_800_000_000 1_800_000_000 (p .longitude) (lit≤ tt)
+          (passes 6 (between (minus 1_800_000_000) (p .longitude) (pos 1_800_000_000)) (longitude .0));
+      latitude-size =
+          between-size 900_000_000 900_000_000 (p .latitude) (lit≤ tt) (passes 7 (between (minus 900_000_000) (p .latitude) (pos 900_000_000)) (latitude .0));
+      height-size = between-size 500 9_000 (p .height) (lit≤ tt) (passes 8 (between (minus 500) (p .height) (pos 9_000)) (height .0));
+    }
+
+-- ---- a start, a point, and further checks
+module _ (s : Start) (p : Point) (rest : List ℕ) where
+  pub first-of : first (start-refusals s ++ (point-refusals p ++ rest)) ≡ first (start-refusals s) else (first (point-refusals p) else first rest)
+  first-of =
+      first-append (start-refusals s) (point-refusals p ++ rest) ∙ ap (λ (n : ℕ). first (start-refusals s) else n) (first-append (point-refusals p) rest)
+
+  module _ (e : first (start-refusals s ++ (point-refusals p ++ rest)) ≡ 0) where
+    pub start-passes : first (start-refusals s) ≡ 0
+    start-passes = none-append (start-refusals s) (point-refusals p ++ rest) e .0
+
+    abbrev further : first (point-refusals p ++ rest) ≡ 0
+    further = none-append (start-refusals s) (point-refusals p ++ rest) e .1
+
+    pub point-passes : first (point-refusals p) ≡ 0
+    point-passes = none-append (point-refusals p) rest further .0
+
+    pub rest-passes : first rest ≡ 0
+    rest-passes = none-append (point-refusals p) rest further .1
+
+pub first-one : (n : ℕ) → first (n ∷ []) ≡ n
+unfolding first
+first-one n = go (eqb n 0) (eqb-true n 0)
+  where
+    go : (b : Bool) → (b ≡ true → n ≡ 0) → cond b 0 n ≡ n
+    go true none = sym (none refl)
+    go false none = refl

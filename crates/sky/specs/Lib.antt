@@ -1,5 +1,8 @@
 pub mod Refusal
 pub mod Request
+pub mod Double
+pub mod Air
+pub mod Batch
 pub mod Heading
 pub mod Product
 pub mod Vector
@@ -8,5 +11,8 @@ pub mod Horizon
 pub mod Geocentric
 pub mod Station
 pub mod Place
+pub mod Refraction
+pub mod Shown
+pub mod Answer
 pub mod SkyRange
 pub mod Cases

@@ -27,9 +27,9 @@ from-runner body station =
     horizon φ (shifted (body .parallax) (observer φ (station .height)) (from-centre body station))
 
 -- azimuth and elevation
-unfoldable pub place : Geocentric → Station → Place
-place body station = record { azimuth = azimuth (from-runner body station); elevation = elevation (from-runner body station) }
+unfoldable pub place-of : Geocentric → Station → Place
+place-of body station = record { azimuth = azimuth (from-runner body station); elevation = elevation (from-runner body station) }
 
 -- of a body at an instant, from a point on Earth
 unfoldable pub place-at : Body → Point → Instant → Place
-place-at body point instant = place (geocentric body (instant .tt)) (station point (instant .ut) (instant .tt))
+place-at body point instant = place-of (geocentric body (instant .tt)) (station point (instant .ut) (instant .tt))

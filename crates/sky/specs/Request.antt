@@ -48,6 +48,10 @@ point-refusals p =
 unfoldable pub elapsed : Start → ℤ
 elapsed s = ((s .hour *ℤ pos 60 +ℤ s .minute) *ℤ pos 60 +ℤ s .second) *ℤ pos second +ℤ s .fraction
 
+-- units from the first instant of 2000, UTC
+unfoldable pub utc : Start → ℤ
+utc s = pos day *ℤ date s .days +ℤ elapsed s
+
 -- UT and TT of a start
 unfoldable pub instant : Start → Instant
 instant s =

@@ -1,7 +1,10 @@
 -- What keeps the sky's numbers within 64 bits: |sin| + |cos| of one angle, a parallax of at most 2·10⁷, heights within 9,000 metres of the sea.
-use Prim.Native.Nat.{_+_, _≤_, ℕ}
+use mathlib.Core.List.{List}
+use Prim.Native.Nat.{_+_, _<_, _≤_, ℕ}
 use lib.IntN.{natAbs, ℤ}
+use lib.ListN.{getD, length}
 use Rattle.numbers.specs.declared.sine.SineCosine.{SineCosine}
+use Rattle.sky.specs.Batch.{later}
 use Rattle.sky.specs.declared.horizon.Horizon.{Horizon}
 use Rattle.sums.specs.Instant.{furthest}
 use Rattle.sums.specs.declared.instant.Instant.{Instant}
@@ -50,3 +53,6 @@ pub record OnEarth (point : Point) : Type 0 where
 pub record Reachable (instant : Instant) : Type 0 where
   pub ut-near : natAbs (instant .ut) ≤ furthest
   pub tt-near : natAbs (instant .tt) ≤ furthest
+
+pub record AllReachable (start : Instant) (offsets : List ℕ) : Type 0 where
+  pub each : (i : ℕ) → i < length offsets → Reachable (later start (getD offsets i 0))

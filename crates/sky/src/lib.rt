@@ -1,10 +1,15 @@
 // The sky: a body's place from a point on Earth.
+pub mod air;
+pub mod answer;
+pub mod batch;
 pub mod geocentric;
 pub mod heading;
 pub mod horizon;
 pub mod observer;
 pub mod place;
 pub mod product;
+pub mod refraction;
 pub mod request;
+pub mod shown;
 pub mod station;
 pub mod vector;

@@ -21,7 +21,7 @@ use sums::instant::powers_at;
 use sums::nutation::nutation_at;
 ghost use mathlib.Core.Path.{_≡_};
 ghost use Rattle.numbers.specs.SineTable.{sines};
-ghost use Rattle.sky.specs.Place.{from-centre, from-runner, place, place-at};
+ghost use Rattle.sky.specs.Place.{from-centre, from-runner, place-of, place-at};
 ghost use Rattle.sky.specs.SkyRange.{Viewed, OnEarth, Reachable};
 
 pub struct Place {
@@ -61,7 +61,7 @@ fn from_runner(table: &[u32; 361], body: Geocentric, station: Station) -> Horizo
 
 pub fn place_of(table: &[u32; 361], body: Geocentric, station: Station) -> Place
     requires { ⌜ (now table ≡ sines) × Viewed body station ⌝ }
-    ensures { λ r. ⌜ r ≡ place body station ⌝ }
+    ensures { λ r. ⌜ r ≡ place-of body station ⌝ }
 {
     let h = from_runner(table, body, station);
     Place {

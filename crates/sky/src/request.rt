@@ -1,6 +1,7 @@
 // A start, a body and a point, the checks 1 to 9 on them, and the start's instant.
 use numbers::calendar::DayCount;
 use numbers::calendar::day_count;
+use sums::instant::DAY;
 use sums::instant::Instant;
 use sums::instant::SECOND;
 use sums::instant::instant_at;
@@ -8,7 +9,7 @@ ghost use mathlib.Core.Path.{_≡_};
 ghost use mathlib.Core.Bool.{true};
 ghost use Rattle.numbers.specs.Calendar.{answer-of};
 ghost use Rattle.sky.specs.Refusal.{first, between, _else_};
-ghost use Rattle.sky.specs.Request.{date, is-clock, start-refusals, point-refusals, elapsed, instant};
+ghost use Rattle.sky.specs.Request.{date, is-clock, start-refusals, point-refusals, elapsed, utc, instant};
 
 // UTC in the Gregorian calendar, UT1 minus UTC, and delta-T. The last three count units of time (SECOND to a second).
 pub struct Start {
@@ -139,6 +140,14 @@ fn elapsed_of(start: Start) -> i64
     ensures { λ r. ⌜ r ≡ elapsed start ⌝ }
 {
     ((start.hour * 60 + start.minute) * 60 + start.second) * SECOND as i64 + start.fraction
+}
+
+// Units from the first instant of 2000, UTC, of an accepted start.
+pub fn utc_of(start: Start) -> i64
+    requires { ⌜ first (start-refusals start) ≡ 0 ⌝ }
+    ensures { λ r. ⌜ r ≡ utc start ⌝ }
+{
+    DAY as i64 * days_in(date_of(start)) + elapsed_of(start)
 }
 
 // UT and TT of an accepted start.

@@ -21,7 +21,7 @@ size-between (pos n) m h l = omega (arith, to-le (# n) (# m) l)
 size-between (negsuc n) m h l = omega (arith, to-le (⊟ (# m)) ⟨ negsuc n ⟩ h)
 
 module _ {d elapsed ut1 delta : ℤ} (a : Accepted d elapsed ut1 delta) where
-  clock-small : natAbs (pos day *ℤ d +ℤ elapsed) ≤ 36_890 * day
+  pub clock-small : natAbs (pos day *ℤ d +ℤ elapsed) ≤ 36_890 * day
   clock-small =
       let early = to-le ⟨ negsuc 36_523 ⟩ ⟨ d ⟩ (a .not-early) in
       let after = to-le (# 0) ⟨ elapsed ⟩ (a .from-midnight) in

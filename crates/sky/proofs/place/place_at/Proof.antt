@@ -10,7 +10,7 @@ use Rattle.numbers.proofs.Machine.{Mirror, asked}
 use Rattle.sky.proofs.Parallax.{parallax-small}
 use Rattle.sky.proofs.SkyMirror.{field}
 use Rattle.sky.specs.Geocentric.{geocentric}
-use Rattle.sky.specs.Place.{place, place-at}
+use Rattle.sky.specs.Place.{place-of, place-at}
 use Rattle.sky.specs.SkyRange.{Viewed}
 use Rattle.sky.specs.Station.{station}
 use Rattle.sky.specs.declared.geocentric.Geocentric.{Geocentric}
@@ -98,7 +98,7 @@ place-of-requires c κs = (s₁ (e c) .pre .0, seen c)
 
 returns : tie.Need-returns
 unfolding place-at
-returns c = c .place-of .ensures ∙ (λ i. place (centre-is (c .before) i) (station-is (c .before) i))
+returns c = c .place-of .ensures ∙ (λ i. place-of (centre-is (c .before) i) (station-is (c .before) i))
 
 pub place-at-spec : {M : Type 1} → statement M
 place-at-spec =

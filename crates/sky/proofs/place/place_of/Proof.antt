@@ -3,7 +3,7 @@ use mathlib.Core.Path.{_∙_, ap, subst⁻¹}
 use borrow.Author.Needs.{needs}
 use Rattle.numbers.proofs.Machine.{passed}
 use Rattle.sky.specs.Horizon.{azimuth, elevation}
-use Rattle.sky.specs.Place.{place}
+use Rattle.sky.specs.Place.{place-of}
 use Rattle.sky.specs.SkyRange.{Seen}
 use Rattle.sky.proofs.SkySizes.{runner-seen}
 use Rattle.sky.proofs.place.place_of.Statement.{statement}
@@ -21,7 +21,7 @@ elevation-requires c κs =
     subst⁻¹ Seen (c .before .from-runner .ensures) (runner-seen (s .args .body) (s .args .station) (s .pre .1))
 
 returns : tie.Need-returns
-unfolding place
+unfolding place-of
 returns c =
     let e = c .before .before .from-runner .ensures in
     λ i. record {

@@ -1,0 +1,32 @@
+-- `sky::refraction::measured_refraction` meets its contract.
+use mathlib.Core.Path.{_∙_, ap}
+use borrow.Author.Needs.{needs}
+use Rattle.numbers.proofs.Machine.{arg, passed}
+use Rattle.sky.specs.Product.{sine-cosine}
+use Rattle.sky.specs.Refraction.{formula, measured-refraction, raised}
+use Rattle.sky.proofs.SkySizes.{gave-one-angle, gave-sine-cosine}
+use Rattle.sky.proofs.refraction.measured_refraction.Statement.{statement}
+use Rattle.sky.proofs.refraction.measured_refraction.Tie as tie
+
+raised-requires : tie.Need-raised-requires
+raised-requires c κs = search needs
+
+sine-cosine-in-requires : tie.Need-sine-cosine-in-requires
+sine-cosine-in-requires c κs = search needs
+
+formula-requires : tie.Need-formula-requires
+formula-requires c κs = gave-one-angle _ (c .sine-cosine-in .ensures)
+
+returns : tie.Need-returns
+unfolding measured-refraction
+returns c =
+    let k = c .before .before in
+    let a = k .before in
+    c .formula .ensures
+    ∙ ap (formula (a .args .p) (a .args .t))
+    (gave-sine-cosine _ (c .before .sine-cosine-in .ensures)
+    ∙ ap sine-cosine (passed (k .raised .ok) (k .raised .ensures ∙ ap raised (arg (a .fits .e) (a .pre .1 .size) .same))))
+
+pub measured-refraction-spec : {M : Type 1} → statement M
+measured-refraction-spec =
+    tie.close (tie.spec raised-requires sine-cosine-in-requires formula-requires returns)

@@ -1,0 +1,29 @@
+-- The shown place (01, "Refraction").
+use Prim.Native.Nat.{_≤_}
+use lib.IntN.{natAbs, pos, ℤ}
+use lib.Ieee.{Float}
+use Rattle.numbers.specs.Angle.{full-turn, quarter-turn}
+use Rattle.sky.specs.Double.{_+d_, _/d_, double, zero-degrees}
+use Rattle.sky.specs.Refraction.{refraction}
+use Rattle.sky.specs.declared.air.Air.{Air}
+use Rattle.sky.specs.declared.place.Place.{Place}
+use Rattle.sky.specs.declared.shown.Shown.{Shown}
+
+-- what every place keeps to
+pub record InTurns (place : Place) : Type 0 where
+  pub azimuth-size : natAbs (place .azimuth) ≤ full-turn
+  pub elevation-size : natAbs (place .elevation) ≤ quarter-turn
+
+-- whole units become degrees by one division by 10⁸
+unfoldable pub degrees : ℤ → Float
+degrees x = double x /d double (pos 100_000_000)
+
+-- azimuth, elevation plus refraction, refraction
+unfoldable pub shown : Air → Place → Shown
+shown air place =
+    let refraction = refraction air (place .elevation) in
+    record { azimuth = degrees (place .azimuth); elevation = degrees (place .elevation) +d refraction; refraction = refraction }
+
+-- a refused answer carries zeros
+abbrev pub nothing-shown : Shown
+nothing-shown = record { azimuth = zero-degrees; elevation = zero-degrees; refraction = zero-degrees }

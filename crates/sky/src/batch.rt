@@ -1,0 +1,138 @@
+// A batch of places into two lent buffers: nothing is written before every offset is judged.
+use super::place::place_at;
+use super::request::Body;
+use super::request::Point;
+use super::request::Start;
+use super::request::instant_of;
+use super::request::or_else;
+use super::request::point_refusal;
+use super::request::start_refusal;
+use super::request::utc_of;
+use numbers::sine_table::table;
+use sums::instant::DAY;
+use sums::instant::Instant;
+ghost use mathlib.Core.Path.{_≡_};
+ghost use Prim.Native.Nat.{_≤_, _^_};
+ghost use lib.IntN.{natAbs};
+ghost use lib.ListN.{length};
+ghost use Rattle.numbers.specs.SineTable.{sines};
+ghost use mathlib.Core.Bool.{_&&_};
+ghost use lib.Dec.{leb};
+ghost use Rattle.sky.specs.Refusal.{_unless_};
+ghost use Rattle.sky.specs.Request.{instant};
+ghost use Rattle.sky.specs.SkyRange.{OnEarth, Reachable, AllReachable};
+ghost use Rattle.sky.specs.Batch.{answer-of, is-late, first-late, batch, later, filled, azimuth-at, elevation-at, left-in};
+
+// The count, one of 1 to 9 or 12, or the index of the first bad offset (13).
+pub enum Batch {
+    Done(usize),
+    Refused(u8),
+    Late(usize),
+}
+
+// The last unit of 2100, from the first instant of 2000.
+const LAST_MOMENT: i64 = (36_890 * DAY) as i64 - 1;
+
+fn is_late(start: i64, offset: u32) -> bool
+    requires { ⌜ natAbs start ≤ 2 ^ 60 ⌝ }
+    ensures { λ r. ⌜ r ≡ is-late start offset ⌝ }
+{
+    LAST_MOMENT < start + offset as i64
+}
+
+// The first bad index, or the number of offsets where there is none.
+fn first_late(start: i64, offsets: &[u32]) -> usize
+    requires { ⌜ natAbs start ≤ 2 ^ 60 ⌝ }
+    ensures { λ r. ⌜ r ≡ first-late start (now (offsets .entry)) ⌝ }
+{
+    let mut i = 0;
+    while i < offsets.len() {
+        if is_late(start, offsets[i]) {
+            return i;
+        }
+        i += 1;
+    }
+    i
+}
+
+// 12, where a buffer is shorter than the list.
+fn room_refusal(count: usize, azimuths: usize, elevations: usize) -> u8
+    ensures { λ r. ⌜ r ≡ 12 unless (leb count azimuths && leb count elevations) ⌝ }
+{
+    if azimuths < count {
+        return 12;
+    }
+    if elevations < count {
+        return 12;
+    }
+    0
+}
+
+fn later(start: Instant, offset: u32) -> Instant
+    requires { ⌜ Reachable (later start offset) ⌝ }
+    ensures { λ r. ⌜ r ≡ later start offset ⌝ }
+{
+    let ut = start.ut + offset as i64;
+    let tt = start.tt + offset as i64;
+    Instant { ut, tt }
+}
+
+// Entry i is the place at offset i. Every instant is accepted and both buffers are long enough.
+fn fill(
+    table: &[u32; 361],
+    body: Body,
+    point: Point,
+    start: Instant,
+    offsets: &[u32],
+    azimuths: &mut [i64],
+    elevations: &mut [i64],
+)
+    requires { ⌜ (now table ≡ sines) × (OnEarth point × AllReachable start (now offsets)) ⌝ }
+    requires { ⌜ (length (now offsets) ≤ length (now azimuths)) × (length (now offsets) ≤ length (now elevations)) ⌝ }
+    ensures { λ _. ⌜ now (azimuths .exit) ≡ filled (azimuth-at body point start) (now (offsets .entry)) (now (azimuths .entry)) ⌝ }
+    ensures { λ _. ⌜ now (elevations .exit) ≡ filled (elevation-at body point start) (now (offsets .entry)) (now (elevations .entry)) ⌝ }
+{
+    let mut i = 0;
+    while i < offsets.len() {
+        let place = place_at(table, body, point, later(start, offsets[i]));
+        let azimuth = place.azimuth;
+        let elevation = place.elevation;
+        azimuths[i] = azimuth;
+        elevations[i] = elevation;
+        i += 1;
+    }
+}
+
+// The places at a start plus each offset, azimuths and elevations (without refraction) in 10⁻⁸ degree.
+pub fn places_at(
+    start: Start,
+    body: Body,
+    point: Point,
+    offsets: &[u32],
+    azimuths: &mut [i64],
+    elevations: &mut [i64],
+) -> Batch
+    ensures { λ r. ⌜ answer-of r ≡ batch start point (now (offsets .entry)) (length (now (azimuths .entry))) (length (now (elevations .entry))) ⌝ }
+    ensures { λ r. ⌜ now (azimuths .exit) ≡ left-in (answer-of r) (azimuth-at body point (instant start)) (now (offsets .entry)) (now (azimuths .entry)) ⌝ }
+    ensures { λ r. ⌜ now (elevations .exit) ≡ left-in (answer-of r) (elevation-at body point (instant start)) (now (offsets .entry)) (now (elevations .entry)) ⌝ }
+{
+    let room = room_refusal(offsets.len(), azimuths.len(), elevations.len());
+    let refusal = or_else(start_refusal(start), or_else(point_refusal(point), room));
+    if refusal != 0 {
+        return Batch::Refused(refusal);
+    }
+    let late = first_late(utc_of(start), offsets);
+    if late < offsets.len() {
+        return Batch::Late(late);
+    }
+    fill(
+        &table(),
+        body,
+        point,
+        instant_of(start),
+        offsets,
+        azimuths,
+        elevations,
+    );
+    Batch::Done(offsets.len())
+}

@@ -1,0 +1,39 @@
+// The place as it is shown, in degrees.
+use super::air::Air;
+use super::place::Place;
+use super::refraction::refraction;
+ghost use mathlib.Core.Path.{_≡_};
+ghost use Prim.Native.Nat.{_≤_};
+ghost use lib.IntN.{natAbs};
+ghost use Rattle.numbers.specs.Angle.{full-turn};
+ghost use Rattle.numbers.specs.SineTable.{sines};
+ghost use Rattle.sky.specs.Shown.{InTurns, degrees, shown};
+
+// The elevation has the refraction in it.
+pub struct Shown {
+    pub azimuth: f64,
+    pub elevation: f64,
+    pub refraction: f64,
+}
+
+// Whole units as degrees.
+fn degrees(x: i64) -> f64
+    requires { ⌜ natAbs x ≤ full-turn ⌝ }
+    ensures { λ r. ⌜ r ≡ degrees x ⌝ }
+{
+    x as f64 / 100_000_000.0
+}
+
+pub fn shown_at(table: &[u32; 361], air: Air, place: Place) -> Shown
+    requires { ⌜ (now table ≡ sines) × InTurns place ⌝ }
+    ensures { λ r. ⌜ r ≡ shown air place ⌝ }
+{
+    let a = place.azimuth;
+    let e = place.elevation;
+    let refraction = refraction(table, air, e);
+    Shown {
+        azimuth: degrees(a),
+        elevation: degrees(e) + refraction,
+        refraction,
+    }
+}
