@@ -1,0 +1,121 @@
+-- A line from a place on: its first byte, its first word, the value of its digits.
+use mathlib.Core.Bool.{Bool, _&&_, cond, false, true}
+use mathlib.Core.List.{List, [], _∷_}
+use mathlib.Core.Path.{_∙_, _≡_, ap, refl, subst, sym}
+use Prim.Native.Nat.{_*_, _+_, _-_, _<_, _^_, _≤_, suc, ℕ}
+use native.Mathlib.Nat.{le-refl, le-trans, lt-of-lt-of-le, mul-assoc, mul-le-mul-right, pow-le-pow-right, pow-succ'}
+use native.Mathlib.Numerals.{add-one}
+use native.Mathlib.Omega.{arith}
+use lib.Dec.{T, eqb, leb}
+use lib.ListN.{drop, drop-of-length-le, getD, length}
+use lib.Seq.{drop-cons}
+use borrow.Author.Tests.{eq-eqb, leb-true, ne-eqb}
+use Rattle.text.specs.Line.{all, is-digit, is-natural, is-negative, minus, natural, space, value-after, word-length}
+
+-- both of two tests
+pub first-of : (a b : Bool) → (a && b) ≡ true → a ≡ true
+first-of true b e = refl
+first-of false b e = e
+
+pub second-of : (a b : Bool) → (a && b) ≡ true → b ≡ true
+second-of true b e = e
+second-of false b e = absurd (subst T (sym e) tt)
+
+module _ (s : List ℕ) (i : ℕ) (h : i < length s) where
+  pub at-place : drop i s ≡ getD s i 0 ∷ drop (i + 1) s
+  at-place = drop-cons s i 0 h ∙ ap (λ (n : ℕ). getD s i 0 ∷ drop n s) (sym (add-one i))
+
+  pub word-ends : getD s i 0 ≡ space → word-length (drop i s) ≡ 0
+  unfolding word-length
+  word-ends e = ap word-length at-place ∙ simp (eq-eqb (getD s i 0) space e)
+
+  pub word-goes-on : (getD s i 0 ≡ space → ⊥) → word-length (drop i s) ≡ suc (word-length (drop (i + 1) s))
+  unfolding word-length
+  word-goes-on e = ap word-length at-place ∙ simp (ne-eqb (getD s i 0) space e)
+
+  all-at : (test : ℕ → Bool) → all test (drop i s) ≡ (test (getD s i 0) && all test (drop (i + 1) s))
+  unfolding all
+  all-at test = ap (all test) at-place
+
+  pub all-fails : (test : ℕ → Bool) → test (getD s i 0) ≡ false → all test (drop i s) ≡ false
+  all-fails test e = all-at test ∙ ap (λ (p : Bool). p && all test (drop (i + 1) s)) e
+
+  pub all-goes-on : (test : ℕ → Bool) → test (getD s i 0) ≡ true → all test (drop i s) ≡ all test (drop (i + 1) s)
+  all-goes-on test e = all-at test ∙ ap (λ (p : Bool). p && all test (drop (i + 1) s)) e
+
+  -- what is known of the rest, where all of it passes
+  pub passes-here : (test : ℕ → Bool) → all test (drop i s) ≡ true → test (getD s i 0) ≡ true
+  passes-here test e = first-of (test (getD s i 0)) (all test (drop (i + 1) s)) (sym (all-at test) ∙ e)
+
+  pub passes-after : (test : ℕ → Bool) → all test (drop i s) ≡ true → all test (drop (i + 1) s) ≡ true
+  passes-after test e = second-of (test (getD s i 0)) (all test (drop (i + 1) s)) (sym (all-at test) ∙ e)
+
+  pub value-at : (n : ℕ) → value-after n (drop i s) ≡ value-after (n * 10 + (getD s i 0 - 48)) (drop (i + 1) s)
+  unfolding value-after
+  value-at n = ap (value-after n) at-place
+
+-- past the end
+module _ (s : List ℕ) (i : ℕ) (h : length s ≤ i) where
+  pub word-over : word-length (drop i s) ≡ 0
+  unfolding word-length
+  word-over = ap word-length (drop-of-length-le s h)
+
+  pub all-over : (test : ℕ → Bool) → all test (drop i s) ≡ true
+  unfolding all
+  all-over test = ap (all test) (drop-of-length-le s h)
+
+  pub value-over : (n : ℕ) → value-after n (drop i s) ≡ n
+  unfolding value-after
+  value-over n = ap (value-after n) (drop-of-length-le s h)
+
+-- the sign
+pub no-sign : (s : List ℕ) → length s ≡ 0 → false ≡ is-negative s
+unfolding is-negative
+no-sign [] e = refl
+no-sign (byte ∷ rest) e = absurd (omega (arith, e))
+
+pub sign-here : (s : List ℕ) → (length s ≡ 0 → ⊥) → eqb (getD s 0 0) minus ≡ is-negative s
+unfolding is-negative
+sign-here [] e = absurd (e refl)
+sign-here (byte ∷ rest) e = refl
+
+pub digit-least : (byte : ℕ) → is-digit byte ≡ true → 48 ≤ byte
+digit-least byte e = leb-true 48 byte (first-of (leb 48 byte) (leb byte 57) e)
+
+pub digit-most : (byte : ℕ) → is-digit byte ≡ true → byte ≤ 57
+digit-most byte e = leb-true byte 57 (second-of (leb 48 byte) (leb byte 57) e)
+
+-- more digits make no number smaller
+pub value-grows : (n : ℕ) (s : List ℕ) → n ≤ value-after n s
+unfolding value-after
+value-grows n [] = le-refl n
+value-grows n (digit ∷ rest) = le-trans (omega arith) (value-grows (n * 10 + (digit - 48)) rest)
+
+value-below : (n : ℕ) (s : List ℕ) → all is-digit s ≡ true → value-after n s < (n + 1) * 10 ^ length s
+unfolding value-after all
+value-below n [] e = omega arith
+value-below n (digit ∷ rest) e =
+    let k = 10 ^ length rest in
+    let high : digit ≤ 57 = digit-most digit (first-of (is-digit digit) (all is-digit rest) e) in
+    let next : (n * 10 + (digit - 48) + 1) * k ≤ (n + 1) * 10 * k = mul-le-mul-right k (omega arith) in
+    lt-of-lt-of-le (value-below (n * 10 + (digit - 48)) rest (second-of (is-digit digit) (all is-digit rest) e))
+    (subst (λ (m : ℕ). (n * 10 + (digit - 48) + 1) * k ≤ m) (mul-assoc (n + 1) 10 k ∙ ap (λ (p : ℕ). (n + 1) * p) (sym (pow-succ' 10 (length rest)))) next)
+
+module _ (s : List ℕ) (e : is-natural s ≡ true) where
+  abbrev few : Bool
+  few = leb (length s) 9
+
+  at-most-nine : (few && all is-digit s) ≡ true
+  unfolding is-natural
+  at-most-nine = second-of (leb 1 (length s)) (few && all is-digit s) e
+
+  pub few-digits : length s ≤ 9
+  few-digits = leb-true (length s) 9 (first-of few (all is-digit s) at-most-nine)
+
+  pub all-digits : all is-digit s ≡ true
+  all-digits = second-of few (all is-digit s) at-most-nine
+
+  pub natural-below : natural s < 1_000_000_000
+  natural-below =
+      let most : 10 ^ length s ≤ 10 ^ 9 = pow-le-pow-right (omega arith) few-digits in
+      omega (arith, value-below 0 s all-digits)

@@ -1,0 +1,34 @@
+-- Whole numbers as text, in ASCII bytes, and a text that grows at its end.
+use mathlib.Core.Bool.{cond}
+use mathlib.Core.List.{List, [], _∷_, _++_}
+use Prim.Native.Nat.{ℕ, _%_, _+_, _/_, suc, zero}
+use lib.Dec.{ltb}
+use lib.IntN.{ℤ, negsuc, pos}
+use lib.ListN.{drop, length, take}
+use Rattle.text.specs.Line.{minus}
+use Rattle.text.specs.declared.decimal.Text.{Text}
+
+-- at most k digits, the last ones of n, with no zero in front
+unfoldable pub last-digits : ℕ → ℕ → List ℕ
+last-digits zero n = []
+last-digits (suc k) n = cond (ltb n 10) ((48 + n) ∷ []) (last-digits k (n / 10) ++ ((48 + n % 10) ∷ []))
+
+-- a number has no more digits than one more than itself
+unfoldable pub digits : ℕ → List ℕ
+digits n = last-digits (suc n) n
+
+-- a minus sign below zero
+unfoldable pub decimal : ℤ → List ℕ
+decimal (pos n) = digits n
+decimal (negsuc n) = minus ∷ digits (suc n)
+
+-- the bytes of a text that are in use
+abbrev pub written : Text → List ℕ
+written text = take (text .length) (text .bytes)
+
+infixl 20 _followed-by_
+-- these bytes after those in use; the ones behind them stay
+unfoldable pub _followed-by_ : Text → List ℕ → Text
+text followed-by added =
+    let end = text .length + length added in
+    record { bytes = written text ++ (added ++ drop end (text .bytes)); length = end }

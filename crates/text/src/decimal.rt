@@ -1,0 +1,70 @@
+// Whole numbers written at the end of a text.
+use numbers::whole::absolute;
+ghost use mathlib.Core.List.{_∷_, []};
+ghost use mathlib.Core.Path.{_≡_};
+ghost use Prim.Native.Nat.{_+_, _<_, _≤_};
+ghost use lib.ListN.{length, replicate};
+ghost use Rattle.text.specs.Decimal.{_followed-by_, digits, decimal};
+
+// A line that is being written: its bytes, and how many are in use.
+pub struct Text {
+    pub bytes: [u8; 80],
+    pub length: usize,
+}
+
+pub fn empty() -> Text
+    ensures { λ r. ⌜ r ≡ record { bytes = replicate 80 0; length = 0 } ⌝ }
+{
+    Text {
+        bytes: [0; 80],
+        length: 0,
+    }
+}
+
+pub fn appended_byte(text: Text, byte: u8) -> Text
+    requires { ⌜ text .length < 80 ⌝ }
+    ensures { λ r. ⌜ r ≡ (text followed-by (byte ∷ [])) ⌝ }
+{
+    let at = text.length;
+    let mut next = text;
+    next.bytes[at] = byte;
+    next.length = at + 1;
+    next
+}
+
+pub fn appended_bytes(text: Text, added: &[u8]) -> Text
+    requires { ⌜ text .length + length (now added) ≤ 80 ⌝ }
+    ensures { λ r. ⌜ r ≡ (text followed-by now (added .entry)) ⌝ }
+{
+    let mut next = text;
+    let mut i = 0;
+    while i < added.len() {
+        next = appended_byte(next, added[i]);
+        i += 1;
+    }
+    next
+}
+
+// The digits before the last one, and the last one: no more calls within calls than a number has digits.
+fn appended_digits(text: Text, n: u64) -> Text
+    requires { ⌜ text .length + length (digits n) ≤ 80 ⌝ }
+    ensures { λ r. ⌜ r ≡ (text followed-by digits n) ⌝ }
+{
+    if n < 10 {
+        return appended_byte(text, b'0' + n as u8);
+    }
+    let before = appended_digits(text, n / 10);
+    appended_byte(before, b'0' + (n % 10) as u8)
+}
+
+// Any number, also the least, has 20 bytes at most.
+pub fn appended_number(text: Text, value: i64) -> Text
+    requires { ⌜ text .length + 20 ≤ 80 ⌝ }
+    ensures { λ r. ⌜ r ≡ (text followed-by decimal value) ⌝ }
+{
+    let size = absolute(value);
+    if value < 0 {
+        return appended_digits(appended_byte(text, b'-'), size);
+    }
+    appended_digits(text, size)
+}

@@ -1,0 +1,3 @@
+// Decimal numbers in lines of ASCII bytes, read and written.
+pub mod decimal;
+pub mod line;

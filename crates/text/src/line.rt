@@ -1,0 +1,146 @@
+// Lines of whole numbers with single spaces, read.
+ghost use mathlib.Core.Bool.{true};
+ghost use mathlib.Core.Option.{none};
+ghost use mathlib.Core.Path.{_≡_};
+ghost use Prim.Native.Nat.{_≤_};
+ghost use lib.ListN.{length, drop};
+ghost use Rattle.text.specs.Line.{word-length, is-digit, all, is-natural, natural, is-negative, is-number, value, line-numbers, sheet-numbers, answer};
+
+// The numbers of a line, with zeros in the entries that are left; all zeros where the line is no such line.
+pub struct Numbers {
+    pub read: bool,
+    pub values: [i64; 12],
+}
+
+// How many bytes stand before the first space.
+pub fn word_length(line: &[u8]) -> usize
+    ensures { λ r. ⌜ r ≡ word-length (now (line .entry)) ⌝ }
+{
+    let mut i = 0;
+    while i < line.len() {
+        if line[i] == b' ' {
+            return i;
+        }
+        i += 1;
+    }
+    i
+}
+
+fn is_digit(byte: u8) -> bool
+    ensures { λ r. ⌜ r ≡ is-digit byte ⌝ }
+{
+    if byte < b'0' { false } else { byte <= b'9' }
+}
+
+fn are_digits(word: &[u8]) -> bool
+    ensures { λ r. ⌜ r ≡ all is-digit (now (word .entry)) ⌝ }
+{
+    let mut i = 0;
+    while i < word.len() {
+        if !is_digit(word[i]) {
+            return false;
+        }
+        i += 1;
+    }
+    true
+}
+
+fn is_natural(word: &[u8]) -> bool
+    ensures { λ r. ⌜ r ≡ is-natural (now (word .entry)) ⌝ }
+{
+    if word.len() < 1 {
+        return false;
+    }
+    if word.len() > 9 {
+        return false;
+    }
+    are_digits(word)
+}
+
+fn natural(word: &[u8]) -> u64
+    requires { ⌜ is-natural (now word) ≡ true ⌝ }
+    ensures { λ r. ⌜ r ≡ natural (now (word .entry)) ⌝ }
+{
+    let mut value: u64 = 0;
+    let mut i = 0;
+    while i < word.len() {
+        value = value * 10 + (word[i] - b'0') as u64;
+        i += 1;
+    }
+    value
+}
+
+fn is_negative(word: &[u8]) -> bool
+    ensures { λ r. ⌜ r ≡ is-negative (now (word .entry)) ⌝ }
+{
+    if word.len() == 0 { false } else { word[0] == b'-' }
+}
+
+pub fn is_number(word: &[u8]) -> bool
+    ensures { λ r. ⌜ r ≡ is-number (now (word .entry)) ⌝ }
+{
+    if is_negative(word) {
+        is_natural(&word[1..])
+    } else {
+        is_natural(word)
+    }
+}
+
+// The value of a word that is a number.
+pub fn value(word: &[u8]) -> i64
+    requires { ⌜ is-number (now word) ≡ true ⌝ }
+    ensures { λ r. ⌜ r ≡ value (now (word .entry)) ⌝ }
+{
+    if is_negative(word) {
+        0 - natural(&word[1..]) as i64
+    } else {
+        natural(word) as i64
+    }
+}
+
+// What is handed back for any other line.
+fn other() -> Numbers
+    ensures { λ r. ⌜ r ≡ answer none ⌝ }
+{
+    Numbers {
+        read: false,
+        values: [0; 12],
+    }
+}
+
+// So many numbers, from a place of the line to its end.
+pub fn line_numbers(line: &[u8], start: usize, count: usize) -> Numbers
+    requires { ⌜ (start ≤ length (now line)) × (count ≤ 12) ⌝ }
+    ensures { λ r. ⌜ r ≡ answer (line-numbers count (drop start (now (line .entry)))) ⌝ }
+{
+    let mut values = [0; 12];
+    let mut at = start;
+    let mut k = 0;
+    while k < count {
+        // past the end there is no word, at the end an empty one
+        if at > line.len() {
+            return other();
+        }
+        let end = at + word_length(&line[at..]);
+        if !is_number(&line[at..end]) {
+            return other();
+        }
+        values[k] = value(&line[at..end]);
+        at = end + 1;
+        k += 1;
+    }
+    if at <= line.len() {
+        return other();
+    }
+    Numbers { read: true, values }
+}
+
+// The nine numbers of a line of the sheet.
+pub fn sheet_numbers(line: &[u8]) -> Numbers
+    ensures { λ r. ⌜ r ≡ answer (sheet-numbers (now (line .entry))) ⌝ }
+{
+    if line.len() > 80 {
+        return other();
+    }
+    line_numbers(line, 0, 9)
+}
