@@ -1,3 +1,4 @@
 pub mod LineLaws
+pub mod WordLaws
 pub mod DecimalLaws
 pub mod RoundTrip

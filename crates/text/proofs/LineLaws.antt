@@ -7,10 +7,11 @@ use native.Mathlib.Nat.{le-refl, le-trans, lt-of-lt-of-le, mul-assoc, mul-le-mul
 use native.Mathlib.Numerals.{add-one}
 use native.Mathlib.Omega.{arith}
 use lib.Dec.{T, eqb, leb}
-use lib.ListN.{drop, drop-of-length-le, getD, length}
-use lib.Seq.{drop-cons}
-use borrow.Author.Tests.{eq-eqb, leb-true, ne-eqb}
-use Rattle.text.specs.Line.{all, is-digit, is-natural, is-negative, minus, natural, space, value-after, word-length}
+use lib.IntN.{negℤ, pos}
+use lib.ListN.{drop, drop-of-length-le, getD, length, length-drop, take}
+use lib.Seq.{drop-cons, take-all}
+use borrow.Author.Tests.{eq-eqb, le-leb, leb-true, lt-leb, ne-eqb}
+use Rattle.text.specs.Line.{all, is-digit, is-natural, is-negative, is-number, minus, natural, space, value, value-after, word-length}
 
 -- both of two tests
 pub first-of : (a b : Bool) → (a && b) ≡ true → a ≡ true
@@ -119,3 +120,47 @@ module _ (s : List ℕ) (e : is-natural s ≡ true) where
   natural-below =
       let most : 10 ^ length s ≤ 10 ^ 9 = pow-le-pow-right (omega arith) few-digits in
       omega (arith, value-below 0 s all-digits)
+
+-- 1 to 9 digits, test by test
+module _ (s : List ℕ) where
+  pub too-short : length s < 1 → false ≡ is-natural s
+  unfolding is-natural
+  too-short h = simp (lt-leb 1 (length s) h)
+
+  pub too-long : 1 ≤ length s → 9 < length s → false ≡ is-natural s
+  unfolding is-natural
+  too-long l h = simp (le-leb 1 (length s) l, lt-leb (length s) 9 h)
+
+  pub right-length : 1 ≤ length s → length s ≤ 9 → all is-digit s ≡ is-natural s
+  unfolding is-natural
+  right-length l h = simp (le-leb 1 (length s) l, le-leb (length s) 9 h)
+
+-- a number by its sign
+module _ (s : List ℕ) (e : is-negative s ≡ true) where
+  pub sign-counts : 1 ≤ length s
+  unfolding is-negative
+  sign-counts = go s e
+    where
+      go : (s : List ℕ) → is-negative s ≡ true → 1 ≤ length s
+      go [] e = absurd (subst T (sym e) tt)
+      go (byte ∷ rest) e = omega arith
+
+  pub behind-sign : take (length s - 1) (drop 1 s) ≡ drop 1 s
+  behind-sign = take-all (length s - 1) (drop 1 s) (simp length-drop (le-refl (length s - 1)))
+
+  pub number-behind : is-number s ≡ is-natural (drop 1 s)
+  unfolding is-number
+  number-behind = ap (λ (p : Bool). cond p (is-natural (drop 1 s)) (is-natural s)) e
+
+  pub value-behind : value s ≡ negℤ (pos (natural (drop 1 s)))
+  unfolding value
+  value-behind = ap (λ (p : Bool). cond p (negℤ (pos (natural (drop 1 s)))) (pos (natural s))) e
+
+module _ (s : List ℕ) (e : is-negative s ≡ false) where
+  pub number-bare : is-number s ≡ is-natural s
+  unfolding is-number
+  number-bare = ap (λ (p : Bool). cond p (is-natural (drop 1 s)) (is-natural s)) e
+
+  pub value-bare : value s ≡ pos (natural s)
+  unfolding value
+  value-bare = ap (λ (p : Bool). cond p (negℤ (pos (natural (drop 1 s)))) (pos (natural s))) e

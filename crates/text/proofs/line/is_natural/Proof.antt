@@ -1,25 +1,21 @@
+-- `text::line::is_natural` meets its contract.
+use mathlib.Core.Path.{_∙_}
 use borrow.Author.Needs.{needs}
+use Rattle.text.proofs.LineLaws.{right-length, too-long, too-short}
 use Rattle.text.proofs.line.is_natural.Statement.{statement}
 use Rattle.text.proofs.line.is_natural.Tie as tie
-use Rattle.text.proofs.line.is_natural.Reads as reads
-use Rattle.text.proofs.line.is_natural.Lts as lts
-use Rattle.text.proofs.line.are_digits.Reads as are-digits-reads
 
--- src/line.rt:52:9
 returns : tie.Need-returns
-returns c = ?
+returns c = too-short (c .before .before .args .word .now) (c .if1 .taken)
 
--- src/line.rt:55:9
 returns-2 : tie.Need-returns-2
-returns-2 c = ?
+returns-2 c = too-long (c .before .before .before .args .word .now) (c .before .if1 .left) (c .if2 .taken)
 
--- src/line.rt:57:5
 are-digits-requires : tie.Need-are-digits-requires
 are-digits-requires c κs = search needs
 
--- src/line.rt:48:1
 returns-3 : tie.Need-returns-3
-returns-3 c = ?
+returns-3 c = c .are-digits .ensures ∙ right-length (c .before .before .before .before .args .word .now) (c .before .before .if1 .left) (c .before .if2 .left)
 
 pub is-natural-spec : {M : Type 1} → statement M
 is-natural-spec = tie.close (tie.spec returns returns-2 are-digits-requires returns-3)

@@ -1,42 +1,40 @@
+-- `text::line::is_number` meets its contract.
+use mathlib.Core.Bool.{true}
+use mathlib.Core.Path.{_∙_, _≡_, ap, sym}
 use borrow.Author.Needs.{needs}
+use Rattle.text.specs.Line.{is-natural, is-negative}
+use Rattle.text.proofs.LineLaws.{behind-sign, number-bare, number-behind, sign-counts}
 use Rattle.text.proofs.line.is_number.Statement.{statement}
 use Rattle.text.proofs.line.is_number.Tie as tie
-use Rattle.text.proofs.line.is_number.Reads as reads
-use Rattle.text.proofs.line.is_number.Lts as lts
-use Rattle.text.proofs.line.is_natural.Reads as is-natural-reads
-use Rattle.text.proofs.line.is_negative.Reads as is-negative-reads
 
--- src/line.rt:82:8
+has-sign : (c : tie.Then1) → is-negative (c .before .before .before .args .word .now) ≡ true
+has-sign c = sym (c .before .is-negative .ensures) ∙ c .if1 .taken
+
 is-negative-requires : tie.Need-is-negative-requires
 is-negative-requires c κs = search needs
 
--- src/line.rt:83:20
 sub-is-natural : tie.Need-sub-is-natural
-sub-is-natural c = ?
+sub-is-natural c = sign-counts (c .before .before .before .args .word .now) (has-sign c)
 
--- src/line.rt:83:20
 part-is-natural-start : tie.Need-part-is-natural-start
-part-is-natural-start c = ?
+part-is-natural-start c = sign-counts (c .before .before .before .args .word .now) (has-sign c)
 
--- src/line.rt:83:20
 part-is-natural-end : tie.Need-part-is-natural-end
 part-is-natural-end c = search needs
 
--- src/line.rt:83:9
 is-natural-requires : tie.Need-is-natural-requires
 is-natural-requires c κs = search needs
 
--- src/line.rt:85:9
 is-natural-requires-2 : tie.Need-is-natural-requires-2
 is-natural-requires-2 c κs = search needs
 
--- src/line.rt:79:1
 returns : tie.Need-returns
-returns c = ?
+returns c =
+    let s = c .before .before .before .before .before .args .word .now in
+    c .is-natural .ensures ∙ ap is-natural (behind-sign s (has-sign (c .before .before))) ∙ sym (number-behind s (has-sign (c .before .before)))
 
--- src/line.rt:79:1
 returns-2 : tie.Need-returns-2
-returns-2 c = ?
+returns-2 c = c .is-natural2 .ensures ∙ sym (number-bare (c .before .before .before .before .args .word .now) (sym (c .before .before .is-negative .ensures) ∙ c .before .if1 .left))
 
 pub is-number-spec : {M : Type 1} → statement M
 is-number-spec =
