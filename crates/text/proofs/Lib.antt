@@ -1,4 +1,5 @@
 pub mod LineLaws
 pub mod WordLaws
+pub mod Reading
 pub mod DecimalLaws
 pub mod RoundTrip

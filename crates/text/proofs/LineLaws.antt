@@ -55,6 +55,10 @@ module _ (s : List ℕ) (i : ℕ) (h : i < length s) where
   unfolding value-after
   value-at n = ap (value-after n) at-place
 
+-- a slice from a place to the end
+pub to-end : (s : List ℕ) (i : ℕ) → take (length s - i) (drop i s) ≡ drop i s
+to-end s i = take-all (length s - i) (drop i s) (simp length-drop (le-refl (length s - i)))
+
 -- past the end
 module _ (s : List ℕ) (i : ℕ) (h : length s ≤ i) where
   pub word-over : word-length (drop i s) ≡ 0
@@ -144,9 +148,6 @@ module _ (s : List ℕ) (e : is-negative s ≡ true) where
       go : (s : List ℕ) → is-negative s ≡ true → 1 ≤ length s
       go [] e = absurd (subst T (sym e) tt)
       go (byte ∷ rest) e = omega arith
-
-  pub behind-sign : take (length s - 1) (drop 1 s) ≡ drop 1 s
-  behind-sign = take-all (length s - 1) (drop 1 s) (simp length-drop (le-refl (length s - 1)))
 
   pub number-behind : is-number s ≡ is-natural (drop 1 s)
   unfolding is-number

@@ -1,11 +1,14 @@
 -- The words of a line, one after the other.
 use mathlib.Core.Bool.{Bool, _&&_, cond, false, true}
 use mathlib.Core.List.{List, [], _∷_, _++_, map}
-use mathlib.Core.Option.{none, some}
+use mathlib.Core.Logic.{⊎-elim}
+use mathlib.Core.Option.{Option, none, some}
 use mathlib.Core.Path.{_∙_, _≡_, ap, ap₂, refl, sym}
 use Prim.Native.Nat.{_+_, _-_, _<_, _≤_, suc, zero, ℕ}
+use native.Mathlib.Nat.{eq-or-lt-of-le}
 use native.Mathlib.Omega.{arith}
 use lib.Dec.{eqb, leb}
+use lib.IntN.{ℤ}
 use lib.ListN.{drop, drop-of-length-le, length, length-append, length-drop, take}
 use lib.Seq.{drop-drop}
 use borrow.Author.Tests.{eq-eqb, le-leb, lt-leb, ne-eqb}
@@ -20,21 +23,22 @@ after-word (byte ∷ rest) = words rest
 words-split : (s : List ℕ) → words s ≡ take (word-length s) s ∷ after-word (drop (word-length s) s)
 unfolding words word-length after-word longer
 words-split [] = refl
-words-split (byte ∷ rest) = by-test (eqb byte space)
+words-split (byte ∷ rest) = by-test (eqb byte space) (words-split rest)
   where
-    by-test : (p : Bool) → cond p ([] ∷ words rest) (longer byte (words rest))
-        ≡ take (cond p 0 (suc (word-length rest))) (byte ∷ rest) ∷ after-word (drop (cond p 0 (suc (word-length rest))) (byte ∷ rest))
-    by-test true = refl
-    by-test false = ap (longer byte) (words-split rest)
+    by-test : (p : Bool) → words rest ≡ take (word-length rest) rest ∷ after-word (drop (word-length rest) rest)
+        → cond p ([] ∷ words rest) (longer byte (words rest))
+          ≡ take (cond p 0 (suc (word-length rest))) (byte ∷ rest) ∷ after-word (drop (cond p 0 (suc (word-length rest))) (byte ∷ rest))
+    by-test true e = refl
+    by-test false e = ap (longer byte) e
 
 pub word-within : (s : List ℕ) → word-length s ≤ length s
 unfolding word-length
 word-within [] = omega arith
-word-within (byte ∷ rest) = by-test (eqb byte space)
+word-within (byte ∷ rest) = by-test (eqb byte space) (word-within rest)
   where
-    by-test : (p : Bool) → cond p 0 (suc (word-length rest)) ≤ suc (length rest)
-    by-test true = omega arith
-    by-test false = omega (arith, word-within rest)
+    by-test : (p : Bool) → word-length rest ≤ length rest → cond p 0 (suc (word-length rest)) ≤ suc (length rest)
+    by-test true h = omega arith
+    by-test false h = omega arith
 
 -- the words from a place on; past the end there are none
 unfoldable pub left : List ℕ → ℕ → List (List ℕ)
@@ -47,3 +51,58 @@ left-words line at h = simp (le-leb at (length line) h)
 pub left-none : (line : List ℕ) (at : ℕ) → length line < at → left line at ≡ []
 unfolding left
 left-none line at h = simp (lt-leb at (length line) h)
+
+-- the word at a place, and where it ends
+abbrev pub word-at : List ℕ → ℕ → List ℕ
+word-at line at = take (word-length (drop at line)) (drop at line)
+
+abbrev pub word-end : List ℕ → ℕ → ℕ
+word-end line at = at + word-length (drop at line)
+
+module _ (line : List ℕ) (at : ℕ) (h : at ≤ length line) where
+  pub end-within : word-end line at ≤ length line
+  end-within = omega (arith, word-within (drop at line), length-drop at line)
+
+  behind-end : after-word (drop (word-end line at) line) ≡ left line (word-end line at + 1)
+  unfolding after-word
+  behind-end = ⊎-elim outside inside (eq-or-lt-of-le end-within)
+    where
+      outside : word-end line at ≡ length line → after-word (drop (word-end line at) line) ≡ left line (word-end line at + 1)
+      outside l = ap after-word (drop-of-length-le line {i = word-end line at} (omega arith)) ∙ sym (left-none line (word-end line at + 1) (omega arith))
+
+      inside : word-end line at < length line → after-word (drop (word-end line at) line) ≡ left line (word-end line at + 1)
+      inside l = ap after-word (at-place line (word-end line at) l) ∙ sym (left-words line (word-end line at + 1) (omega arith))
+
+  pub left-split : left line at ≡ word-at line at ∷ left line (word-end line at + 1)
+  left-split =
+      left-words line at h ∙ words-split (drop at line)
+      ∙ ap (λ (more : List (List ℕ)). word-at line at ∷ more) (ap after-word (drop-drop (word-length (drop at line)) at line) ∙ behind-end)
+
+pub all-append : {A : Type 0} (test : A → Bool) (xs ys : List A) → all test (xs ++ ys) ≡ (all test xs && all test ys)
+unfolding all
+all-append test [] ys = refl
+all-append test (x ∷ xs) ys = ap (λ (p : Bool). test x && p) (all-append test xs ys) ∙ sym (and-assoc (test x) (all test xs) (all test ys))
+  where
+    and-assoc : (a b c : Bool) → ((a && b) && c) ≡ (a && (b && c))
+    and-assoc true b c = refl
+    and-assoc false b c = refl
+
+-- the numbers of a line, case by case
+module _ (count : ℕ) (s : List ℕ) where
+  pub other-count : (length (words s) ≡ count → ⊥) → line-numbers count s ≡ none
+  unfolding line-numbers
+  other-count h = simp (ne-eqb (length (words s)) count h)
+
+  pub other-word : all is-number (words s) ≡ false → line-numbers count s ≡ none
+  unfolding line-numbers numbers
+  other-word e =
+      ap (λ (p : Bool). cond (eqb (length (words s)) count) (cond p (some (map value (words s))) none) none) e
+      ∙ either (eqb (length (words s)) count)
+    where
+      either : (p : Bool) → _≡_ {A = Option (List ℤ)} (cond p none none) none
+      either true = refl
+      either false = refl
+
+  pub all-numbers : length (words s) ≡ count → all is-number (words s) ≡ true → line-numbers count s ≡ some (map value (words s))
+  unfolding line-numbers numbers
+  all-numbers h e = simp (eq-eqb (length (words s)) count h, e)

@@ -3,7 +3,7 @@ use mathlib.Core.Bool.{true}
 use mathlib.Core.Path.{_∙_, _≡_, ap, sym}
 use borrow.Author.Needs.{needs}
 use Rattle.text.specs.Line.{is-natural, is-negative}
-use Rattle.text.proofs.LineLaws.{behind-sign, number-bare, number-behind, sign-counts}
+use Rattle.text.proofs.LineLaws.{number-bare, number-behind, sign-counts, to-end}
 use Rattle.text.proofs.line.is_number.Statement.{statement}
 use Rattle.text.proofs.line.is_number.Tie as tie
 
@@ -31,7 +31,7 @@ is-natural-requires-2 c κs = search needs
 returns : tie.Need-returns
 returns c =
     let s = c .before .before .before .before .before .args .word .now in
-    c .is-natural .ensures ∙ ap is-natural (behind-sign s (has-sign (c .before .before))) ∙ sym (number-behind s (has-sign (c .before .before)))
+    c .is-natural .ensures ∙ ap is-natural (to-end s 1) ∙ sym (number-behind s (has-sign (c .before .before)))
 
 returns-2 : tie.Need-returns-2
 returns-2 c = c .is-natural2 .ensures ∙ sym (number-bare (c .before .before .before .before .args .word .now) (sym (c .before .before .is-negative .ensures) ∙ c .before .if1 .left))

@@ -1,32 +1,22 @@
 -- `text::line::line_numbers` meets its contract. The invariant: `Reading`.
 use mathlib.Core.Bool.{true}
-use mathlib.Core.List.{List, _++_, map}
-use mathlib.Core.Path.{_≡_}
+use mathlib.Core.List.{List}
+use mathlib.Core.Path.{_∙_, _≡_, ap, sym}
 use Prim.Native.Nat.{_+_, _-_, _≤_, ℕ}
 use native.Mathlib.Omega.{arith}
-use lib.IntN.{pos, ℤ}
-use lib.ListN.{drop, length, replicate}
+use lib.IntN.{ℤ}
+use lib.ListN.{drop, length, take}
+use mir.Syntax.{w64}
+use mir.Val.{ofZ, toZ}
 use borrow.Author.Needs.{needs}
-use Rattle.text.specs.Line.{all, is-number, value, words}
-use Rattle.text.proofs.WordLaws.{left}
+use borrow.Author.Tests.{not-false, not-true}
+use Rattle.numbers.proofs.Machine.{passed}
+use Rattle.text.specs.Line.{answer, is-number, line-numbers, value, word-length}
+use Rattle.text.proofs.LineLaws.{to-end}
+use Rattle.text.proofs.Reading.{Reading, all-read, begun, no-number, one-more, too-few, too-many}
+use Rattle.text.proofs.WordLaws.{end-within, word-at, word-end}
 use Rattle.text.proofs.line.line_numbers.Statement.{statement}
 use Rattle.text.proofs.line.line_numbers.Tie as tie
-use Rattle.text.proofs.line.line_numbers.Reads as reads
-use Rattle.text.proofs.line.line_numbers.Lts as lts
-use Rattle.text.proofs.line.is_number.Reads as is-number-reads
-use Rattle.text.proofs.line.other.Reads as other-reads
-use Rattle.text.proofs.line.value.Reads as value-reads
-use Rattle.text.proofs.line.word_length.Reads as word-length-reads
-
--- k words were read, all of them numbers, and the others are left
-record Reading (line : List ℕ) (start count : ℕ) (values : List ℤ) (at k : ℕ) : Type 0 where
-  done : List (List ℕ)
-  counted : length done ≡ k
-  good : all is-number done ≡ true
-  split : words (drop start line) ≡ done ++ left line at
-  kept : values ≡ map value done ++ replicate (12 - k) (pos 0)
-  place : at ≤ length line + 1
-  within : k ≤ count
 
 abbrev Inv-loop : tie.InvT-loop
 Inv-loop line start count values₀ at₀ k₀ values at k = Reading line start count values at k
@@ -34,113 +24,134 @@ Inv-loop line start count values₀ at₀ k₀ values at k = Reading line start 
 abbrev μ-loop : tie.MeasureT-loop
 μ-loop line start count values₀ at₀ k₀ values at k = count - k
 
--- src/line.rt:119:5
-loop-holds : tie.Need-loop-holds Inv-loop μ-loop
-loop-holds c = ?
+abbrev loop-of : tie.After-word-length Inv-loop μ-loop → tie.At-loop Inv-loop μ-loop
+loop-of c = c .before .before .before .before
 
--- src/line.rt:122:13
+-- the word that the turn is at
+module _ (c : tie.After-word-length Inv-loop μ-loop) where
+  abbrev line : List ℕ
+  line = loop-of c .before .before .args .line .now
+
+  abbrev at : ℕ
+  at = loop-of c .loop .at
+
+  length-is : c .word-length .result ≡ word-length (drop at line)
+  length-is = c .word-length .ensures ∙ ap word-length (to-end line at)
+
+  end-is : at + c .word-length .result ≡ word-end line at
+  end-is = ap (λ (n : ℕ). at + n) length-is
+
+  inside : word-end line at ≤ length line
+  inside = end-within line at (c .before .before .if1 .left)
+
+  begins : at ≤ at + c .word-length .result
+  begins = omega arith
+
+  ends : at + c .word-length .result ≤ length line
+  ends = omega (arith, end-is, inside)
+
+  word-is : take (at + c .word-length .result - at) (drop at line) ≡ word-at line at
+  word-is = ap (λ (n : ℕ). take n (drop at line)) (same at (c .word-length .result) ∙ length-is)
+    where
+      same : (m n : ℕ) → m + n - m ≡ n
+      same m n = omega arith
+
+word-tested : (c : tie.After-is-number Inv-loop μ-loop) → c .is-number .result ≡ is-number (word-at (line (c .before .before)) (at (c .before .before)))
+word-tested c = c .is-number .ensures ∙ ap is-number (word-is (c .before .before))
+
+loop-holds : tie.Need-loop-holds Inv-loop μ-loop
+loop-holds c = begun (c .before .args .line .now) (c .before .args .start) (c .before .args .count) (c .before .pre .0)
+
 other-requires : tie.Need-other-requires Inv-loop μ-loop
 other-requires c κs = search needs
 
--- src/line.rt:122:13
 returns : tie.Need-returns Inv-loop μ-loop
-returns c = ?
+returns c = c .other .ensures ∙ ap answer (too-few (c .before .before .before .loop .inv) (c .before .if1 .taken) (c .before .before .loop-test .taken))
 
--- src/line.rt:124:36
 sub-word-length : tie.Need-sub-word-length Inv-loop μ-loop
 sub-word-length c = search needs
 
--- src/line.rt:124:36
 part-word-length-start : tie.Need-part-word-length-start Inv-loop μ-loop
 part-word-length-start c = search needs
 
--- src/line.rt:124:36
 part-word-length-end : tie.Need-part-word-length-end Inv-loop μ-loop
 part-word-length-end c = search needs
 
--- src/line.rt:124:24
 word-length-requires : tie.Need-word-length-requires Inv-loop μ-loop
 word-length-requires c κs = search needs
 
--- src/line.rt:124:19
 add-end : tie.Need-add-end Inv-loop μ-loop
-add-end c = ?
+add-end c = record { fits = omega (arith, end-is c, inside c) }
 
--- src/line.rt:125:23
 sub-is-number : tie.Need-sub-is-number Inv-loop μ-loop
-sub-is-number c = ?
+sub-is-number c = omega arith
 
--- src/line.rt:125:23
 part-is-number-start : tie.Need-part-is-number-start Inv-loop μ-loop
-part-is-number-start c = ?
+part-is-number-start c = begins c
 
--- src/line.rt:125:23
 part-is-number-end : tie.Need-part-is-number-end Inv-loop μ-loop
-part-is-number-end c = ?
+part-is-number-end c = ends c
 
--- src/line.rt:125:13
 is-number-requires : tie.Need-is-number-requires Inv-loop μ-loop
 is-number-requires c κs = search needs
 
--- src/line.rt:126:13
 other-requires-2 : tie.Need-other-requires-2 Inv-loop μ-loop
 other-requires-2 c κs = search needs
 
--- src/line.rt:126:13
 returns-2 : tie.Need-returns-2 Inv-loop μ-loop
-returns-2 c = ?
+returns-2 c =
+    let w = c .before .before .before .before in
+    c .other2 .ensures
+    ∙ ap answer (no-number (loop-of w .loop .inv) (w .before .before .if1 .left) (sym (word-tested (c .before .before)) ∙ not-true (c .before .before .is-number .result) (c .before .if2 .taken)))
 
--- src/line.rt:128:27
 sub-value : tie.Need-sub-value Inv-loop μ-loop
-sub-value c = ?
+sub-value c = omega arith
 
--- src/line.rt:128:27
 part-value-start : tie.Need-part-value-start Inv-loop μ-loop
-part-value-start c = ?
+part-value-start c = begins (c .before .before .before)
 
--- src/line.rt:128:27
 part-value-end : tie.Need-part-value-end Inv-loop μ-loop
-part-value-end c = ?
+part-value-end c = ends (c .before .before .before)
 
--- src/line.rt:128:21
 value-requires : tie.Need-value-requires Inv-loop μ-loop
-value-requires c κs = ?
+value-requires c κs =
+    let t = c .before .before in
+    sym (t .is-number .ensures) ∙ not-false (t .is-number .result) (c .before .if2 .left)
 
--- src/line.rt:128:9
 mul-values : tie.Need-mul-values Inv-loop μ-loop
 mul-values c = search needs
 
--- src/line.rt:128:9
 array-set-from-values : tie.Need-array-set-from-values Inv-loop μ-loop
 array-set-from-values c = search needs
 
--- src/line.rt:129:14
 add-at : tie.Need-add-at Inv-loop μ-loop
-add-at c = ?
+add-at c =
+    let w = c .before .before .before .before .before in
+    record { fits = omega (arith, end-is w, inside w) }
 
--- src/line.rt:130:9
 add-k : tie.Need-add-k Inv-loop μ-loop
 add-k c = search needs
 
--- src/line.rt:119:5
 loop-less : tie.Need-loop-less Inv-loop μ-loop
 loop-less c = search needs
 
--- src/line.rt:119:5
 loop-again : tie.Need-loop-again Inv-loop μ-loop
-loop-again c = ?
+loop-again c =
+    let t = c .before .before .before in
+    let w = t .before .before in
+    let l = loop-of w in
+    rw (end-is w)
+    (one-more (l .loop .inv) (w .before .before .if1 .left) (sym (word-tested t) ∙ not-false (t .is-number .result) (c .before .before .if2 .left)) (w .before .before .before .loop-test .taken)
+    (l .before .before .pre .1) (toZ w64 (ofZ w64 (c .value .result))) (passed (c .value .ok) (c .value .ensures ∙ ap value (word-is w))))
 
--- src/line.rt:133:9
 other-requires-3 : tie.Need-other-requires-3 Inv-loop μ-loop
 other-requires-3 c κs = search needs
 
--- src/line.rt:133:9
 returns-3 : tie.Need-returns-3 Inv-loop μ-loop
-returns-3 c = ?
+returns-3 c = c .other3 .ensures ∙ ap answer (too-many (c .before .before .before .loop .inv) (c .before .if3 .taken) (c .before .before .loop-test .left))
 
--- src/line.rt:112:1
 returns-4 : tie.Need-returns-4 Inv-loop μ-loop
-returns-4 c = ?
+returns-4 c = all-read (c .before .before .loop .inv) (c .if3 .left) (c .before .loop-test .left)
 
 pub line-numbers-spec : {M : Type 1} → statement M
 line-numbers-spec =

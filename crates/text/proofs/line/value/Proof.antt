@@ -9,7 +9,7 @@ use lib.ListN.{drop}
 use borrow.Author.Needs.{needs}
 use Rattle.numbers.proofs.Machine.{Mirror, fits, from-nat, kept, minus, nat-fits}
 use Rattle.text.specs.Line.{is-natural, is-negative, natural}
-use Rattle.text.proofs.LineLaws.{behind-sign, natural-below, number-bare, number-behind, sign-counts, value-bare, value-behind}
+use Rattle.text.proofs.LineLaws.{natural-below, number-bare, number-behind, sign-counts, to-end, value-bare, value-behind}
 use Rattle.text.proofs.line.value.Statement.{statement}
 use Rattle.text.proofs.line.value.Tie as tie
 
@@ -22,7 +22,7 @@ natural-behind c = sym (number-behind (c .before .before .before .args .word .no
 
 module _ (c : tie.After-natural) where
   behind-is : c .natural .result ≡ natural (drop 1 (c .before .before .before .before .before .args .word .now))
-  behind-is = c .natural .ensures ∙ ap natural (behind-sign (c .before .before .before .before .before .args .word .now) (has-sign (c .before .before)))
+  behind-is = c .natural .ensures ∙ ap natural (to-end (c .before .before .before .before .before .args .word .now) 1)
 
   behind-most : c .natural .result ≤ 1_000_000_000
   behind-most = omega (arith, behind-is, natural-below (drop 1 (c .before .before .before .before .before .args .word .now)) (natural-behind (c .before .before)))
@@ -59,7 +59,7 @@ part-natural-end c = search needs
 natural-requires : tie.Need-natural-requires
 natural-requires c κs =
     let s = c .before .before .before .before .args .word .now in
-    ap is-natural (behind-sign s (has-sign (c .before))) ∙ natural-behind (c .before)
+    ap is-natural (to-end s 1) ∙ natural-behind (c .before)
 
 cast-result : tie.Need-cast-result
 cast-result c = nat-fits (behind-most c) tt
