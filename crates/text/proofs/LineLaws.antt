@@ -1,6 +1,7 @@
 -- A line from a place on: its first byte, its first word, the value of its digits.
 use mathlib.Core.Bool.{Bool, _&&_, cond, false, true}
 use mathlib.Core.List.{List, [], _∷_}
+use mathlib.Core.Option.{none}
 use mathlib.Core.Path.{_∙_, _≡_, ap, refl, subst, sym}
 use Prim.Native.Nat.{_*_, _+_, _-_, _<_, _^_, _≤_, suc, ℕ}
 use native.Mathlib.Nat.{le-refl, le-trans, lt-of-lt-of-le, mul-assoc, mul-le-mul-right, pow-le-pow-right, pow-succ'}
@@ -11,7 +12,7 @@ use lib.IntN.{negℤ, pos}
 use lib.ListN.{drop, drop-of-length-le, getD, length, length-drop, take}
 use lib.Seq.{drop-cons, take-all}
 use borrow.Author.Tests.{eq-eqb, le-leb, leb-true, lt-leb, ne-eqb}
-use Rattle.text.specs.Line.{all, is-digit, is-natural, is-negative, is-number, minus, natural, space, value, value-after, word-length}
+use Rattle.text.specs.Line.{all, is-digit, is-natural, is-negative, is-number, line-numbers, minus, natural, sheet-numbers, space, value, value-after, word-length}
 
 -- both of two tests
 pub first-of : (a b : Bool) → (a && b) ≡ true → a ≡ true
@@ -165,3 +166,13 @@ module _ (s : List ℕ) (e : is-negative s ≡ false) where
   pub value-bare : value s ≡ pos (natural s)
   unfolding value
   value-bare = ap (λ (p : Bool). cond p (negℤ (pos (natural (drop 1 s)))) (pos (natural s))) e
+
+-- the sheet's limit
+module _ (line : List ℕ) where
+  pub too-long-line : 80 < length line → sheet-numbers line ≡ none
+  unfolding sheet-numbers
+  too-long-line h = simp (lt-leb (length line) 80 h)
+
+  pub no-longer : length line ≤ 80 → sheet-numbers line ≡ line-numbers 9 line
+  unfolding sheet-numbers
+  no-longer h = simp (le-leb (length line) 80 h)
