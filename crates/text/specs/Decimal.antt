@@ -1,10 +1,12 @@
 -- Whole numbers as text, in ASCII bytes, and a text that grows at its end.
 use mathlib.Core.Bool.{cond}
 use mathlib.Core.List.{List, [], _∷_, _++_}
+use mathlib.Core.Path.{_≡_}
 use Prim.Native.Nat.{ℕ, _%_, _+_, _/_, suc, zero}
 use lib.Dec.{ltb}
 use lib.IntN.{ℤ, negsuc, pos}
-use lib.ListN.{drop, length, take}
+use lib.ListN.{length, take}
+use lib.Seq.{sets}
 use Rattle.text.specs.Line.{minus}
 use Rattle.text.specs.declared.decimal.Text.{Text}
 
@@ -27,8 +29,11 @@ abbrev pub written : Text → List ℕ
 written text = take (text .length) (text .bytes)
 
 infixl 20 _followed-by_
--- these bytes after those in use; the ones behind them stay
+-- these bytes stored behind those in use
 unfoldable pub _followed-by_ : Text → List ℕ → Text
-text followed-by added =
-    let end = text .length + length added in
-    record { bytes = written text ++ (added ++ drop end (text .bytes)); length = end }
+text followed-by added = record { bytes = sets (text .bytes) (text .length) added; length = text .length + length added }
+
+-- what appending gives: the whole text, and with it the bytes in use
+pub record Appended (text : Text) (added : List ℕ) (next : Text) : Type 0 where
+  pub whole : next ≡ (text followed-by added)
+  pub in-use : written next ≡ written text ++ added

@@ -4,7 +4,7 @@ ghost use mathlib.Core.List.{_∷_, []};
 ghost use mathlib.Core.Path.{_≡_};
 ghost use Prim.Native.Nat.{_+_, _<_, _≤_};
 ghost use lib.ListN.{length, replicate};
-ghost use Rattle.text.specs.Decimal.{_followed-by_, digits, decimal};
+ghost use Rattle.text.specs.Decimal.{Appended, digits, decimal};
 
 // A line that is being written: its bytes, and how many are in use.
 pub struct Text {
@@ -23,7 +23,7 @@ pub fn empty() -> Text
 
 pub fn appended_byte(text: Text, byte: u8) -> Text
     requires { ⌜ text .length < 80 ⌝ }
-    ensures { λ r. ⌜ r ≡ (text followed-by (byte ∷ [])) ⌝ }
+    ensures { λ r. ⌜ Appended text (byte ∷ []) r ⌝ }
 {
     let at = text.length;
     let mut next = text;
@@ -34,7 +34,7 @@ pub fn appended_byte(text: Text, byte: u8) -> Text
 
 pub fn appended_bytes(text: Text, added: &[u8]) -> Text
     requires { ⌜ text .length + length (now added) ≤ 80 ⌝ }
-    ensures { λ r. ⌜ r ≡ (text followed-by now (added .entry)) ⌝ }
+    ensures { λ r. ⌜ Appended text (now (added .entry)) r ⌝ }
 {
     let mut next = text;
     let mut i = 0;
@@ -48,7 +48,7 @@ pub fn appended_bytes(text: Text, added: &[u8]) -> Text
 // The digits before the last one, and the last one: no more calls within calls than a number has digits.
 fn appended_digits(text: Text, n: u64) -> Text
     requires { ⌜ text .length + length (digits n) ≤ 80 ⌝ }
-    ensures { λ r. ⌜ r ≡ (text followed-by digits n) ⌝ }
+    ensures { λ r. ⌜ Appended text (digits n) r ⌝ }
 {
     if n < 10 {
         return appended_byte(text, b'0' + n as u8);
@@ -60,7 +60,7 @@ fn appended_digits(text: Text, n: u64) -> Text
 // Any number, also the least, has 20 bytes at most.
 pub fn appended_number(text: Text, value: i64) -> Text
     requires { ⌜ text .length + 20 ≤ 80 ⌝ }
-    ensures { λ r. ⌜ r ≡ (text followed-by decimal value) ⌝ }
+    ensures { λ r. ⌜ Appended text (decimal value) r ⌝ }
 {
     let size = absolute(value);
     if value < 0 {

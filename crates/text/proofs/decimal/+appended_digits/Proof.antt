@@ -9,7 +9,7 @@ use Rattle.text.proofs.decimal.+appended_digits.{statement}
 use Rattle.text.proofs.decimal.+appended_digits.Tie.{close}
 
 abbrev μ-appended-digits : Measures 0 appended-digits-kinds.ps ℕ
-μ-appended-digits κs a = ?
+μ-appended-digits κs a = a .1 .0
 
 abbrev appended-digits-at : ℕ → In 0 appended-digits-kinds.ps
 appended-digits-at t =
