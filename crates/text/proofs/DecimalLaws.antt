@@ -5,11 +5,14 @@ use mathlib.Core.Path.{_∙_, _≡_, ap, refl, subst, sym}
 use Prim.Native.Nat.{_%_, _*_, _+_, _-_, _/_, _<_, _^_, _≤_, suc, zero, ℕ}
 use native.Mathlib.Nat.{add-suc, add-zero, div-lt-iff-lt-mul, not-suc-le-zero, pow-suc, suc-add}
 use native.Mathlib.Omega.{arith}
-use lib.Dec.{ltb}
+use lib.Dec.{ltb, ltb→lt}
+use lib.IntN.{natAbs, negsuc, pos, ℤ}
 use lib.ListN.{drop, length, length-append, set, take}
 use lib.Seq.{length-take-le, sets, sets-eq, take-at}
+use lib.Signed.{_<ℤ_, _≤ℤ_}
 use borrow.Author.Tests.{le-ltb, lt-ltb, ltb-false, ltb-true}
-use Rattle.text.specs.Decimal.{Appended, _followed-by_, digits, last-digits, written}
+use Rattle.text.specs.Decimal.{Appended, _followed-by_, decimal, digits, last-digits, written}
+use Rattle.text.specs.Line.{minus}
 use Rattle.text.specs.declared.decimal.Text.{Text}
 
 -- stores of one list after another
@@ -104,3 +107,15 @@ few-digits (suc k) n h = by-test (ltb n 10) refl (few-digits k (n / 10) (div-lt-
     by-test : (p : Bool) → ltb n 10 ≡ p → length (digits (n / 10)) ≤ suc k → length (digits n) ≤ suc (suc k)
     by-test true e before = omega (arith, ap length (one-digit n (ltb-true n 10 e)))
     by-test false e before = omega (arith, ap length (more-digits n (ltb-false n 10 e)), length-append (digits (n / 10)) ((48 + n % 10) ∷ []))
+
+-- ---- the sign
+
+pub below-zero : {z : ℤ} → z <ℤ pos 0 → decimal z ≡ minus ∷ digits (natAbs z)
+unfolding decimal
+below-zero {z = pos n} h = absurd (not-suc-le-zero (ltb→lt n 0 (h .lt)))
+below-zero {z = negsuc n} h = refl
+
+pub from-zero : {z : ℤ} → pos 0 ≤ℤ z → decimal z ≡ digits (natAbs z)
+unfolding decimal
+from-zero {z = pos n} h = refl
+from-zero {z = negsuc n} h = absurd (h .le)

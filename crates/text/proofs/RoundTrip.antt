@@ -1,0 +1,118 @@
+-- What was printed is read again.
+use mathlib.Core.Bool.{Bool, _&&_, cond, false, not, true}
+use mathlib.Core.List.{List, [], _∷_, _++_, map}
+use mathlib.Core.Option.{none, some}
+use mathlib.Core.Path.{_∙_, _≡_, ap, ap₂, refl, sym}
+use Prim.Native.Nat.{_%_, _*_, _+_, _-_, _/_, _<_, _≤_, suc, ℕ}
+use native.Mathlib.Nat.{div-add-mod'}
+use native.Mathlib.Omega.{arith}
+use lib.Dec.{eqb, leb}
+use lib.IntN.{natAbs, negsuc, negℤ, pos, ℤ}
+use lib.ListN.{length, length-append}
+use borrow.Author.Tests.{eq-eqb, le-leb, ne-eqb}
+use Rattle.text.specs.Decimal.{decimal, digits}
+use Rattle.text.specs.Line.{all, is-digit, is-natural, is-negative, is-number, line-numbers, longer, minus, natural, number, space, value, value-after, words}
+use Rattle.text.specs.RoundTrip.{AllShort, LineAgain, NumberAgain, Short, ValueAgain, more, printed}
+use Rattle.text.proofs.DecimalLaws.{each-number, few-digits, more-digits, one-digit}
+use Rattle.text.proofs.LineLaws.{digit-least, digit-most, first-of, number-bare, number-behind, right-length, second-of, value-bare, value-behind}
+use Rattle.text.proofs.WordLaws.{all-append, all-numbers}
+
+-- ---- the digits of a number
+
+digit-byte : (n : ℕ) → n < 10 → is-digit (48 + n) ≡ true
+digit-byte n h = simp (le-leb 48 (48 + n) (omega arith), le-leb (48 + n) 57 (omega arith))
+
+all-one : (byte : ℕ) → is-digit byte ≡ true → all is-digit (byte ∷ []) ≡ true
+unfolding all
+all-one byte e = ap (λ (p : Bool). p && true) e
+
+pub all-are-digits : (n : ℕ) → all is-digit (digits n) ≡ true
+all-are-digits = each-number (λ n. all is-digit (digits n) ≡ true)
+    (λ n h. ap (all is-digit) (one-digit n h) ∙ all-one (48 + n) (digit-byte n h))
+    (λ n h e. ap (all is-digit) (more-digits n h) ∙ all-append is-digit (digits (n / 10)) ((48 + n % 10) ∷ [])
+    ∙ ap₂ _&&_ e (all-one (48 + n % 10) (digit-byte (n % 10) (omega arith))))
+
+value-snoc : (n : ℕ) (s : List ℕ) (digit : ℕ) → value-after n (s ++ (digit ∷ [])) ≡ value-after n s * 10 + (digit - 48)
+unfolding value-after
+value-snoc n [] digit = refl
+value-snoc n (byte ∷ rest) digit = value-snoc (n * 10 + (byte - 48)) rest digit
+
+value-one : (n : ℕ) → natural ((48 + n) ∷ []) ≡ n
+unfolding value-after
+value-one n = omega arith
+
+pub natural-again : (n : ℕ) → natural (digits n) ≡ n
+natural-again = each-number (λ n. natural (digits n) ≡ n)
+    (λ n h. ap natural (one-digit n h) ∙ value-one n)
+    (λ n h e. ap natural (more-digits n h) ∙ value-snoc 0 (digits (n / 10)) (48 + n % 10)
+    ∙ ap (λ (m : ℕ). m * 10 + (48 + n % 10 - 48)) e ∙ joined n)
+  where
+    joined : (n : ℕ) → n / 10 * 10 + (48 + n % 10 - 48) ≡ n
+    joined n = omega arith
+
+some-digit : (n : ℕ) → 1 ≤ length (digits n)
+some-digit = each-number (λ n. 1 ≤ length (digits n))
+    (λ n h. omega (arith, ap length (one-digit n h)))
+    (λ n h e. omega (arith, ap length (more-digits n h), length-append (digits (n / 10)) ((48 + n % 10) ∷ [])))
+
+-- a digit is no sign
+no-minus : (s : List ℕ) → all is-digit s ≡ true → is-negative s ≡ false
+unfolding all is-negative
+no-minus [] e = refl
+no-minus (byte ∷ rest) e = ne-eqb byte minus (λ q. omega (arith, digit-least byte (first-of (is-digit byte) (all is-digit rest) e)))
+
+no-minus-in : (n : ℕ) → is-negative (digits n) ≡ false
+no-minus-in n = no-minus (digits n) (all-are-digits n)
+
+minus-first : (s : List ℕ) → is-negative (minus ∷ s) ≡ true
+unfolding is-negative
+minus-first s = refl
+
+-- ---- a number
+
+pub value-again : ValueAgain
+unfolding decimal
+value-again (pos n) = value-bare (digits n) (no-minus-in n) ∙ ap pos (natural-again n)
+value-again (negsuc n) = value-behind (minus ∷ digits (suc n)) (minus-first (digits (suc n))) ∙ ap (λ (m : ℕ). negℤ (pos m)) (natural-again (suc n))
+
+natural-digits : (n : ℕ) → n < 1_000_000_000 → is-natural (digits n) ≡ true
+natural-digits n h = sym (right-length (digits n) (some-digit n) (few-digits 8 n h)) ∙ all-are-digits n
+
+is-number-again : (z : ℤ) → Short z → is-number (decimal z) ≡ true
+unfolding decimal
+is-number-again (pos n) h = number-bare (digits n) (no-minus-in n) ∙ natural-digits n h
+is-number-again (negsuc n) h = number-behind (minus ∷ digits (suc n)) (minus-first (digits (suc n))) ∙ natural-digits (suc n) h
+
+pub number-again : NumberAgain
+unfolding number
+number-again z h = ap₂ (λ (p : Bool) (v : ℤ). cond p (some v) none) (is-number-again z h) (value-again z)
+
+-- ---- a line
+
+-- a byte that is no space
+abbrev is-inner : ℕ → Bool
+is-inner byte = not (eqb byte space)
+
+digits-inner : (s : List ℕ) → all is-digit s ≡ true → all is-inner s ≡ true
+unfolding all
+digits-inner [] e = refl
+digits-inner (byte ∷ rest) e =
+    ap₂ (λ (p q : Bool). not p && q)
+    (ne-eqb byte space (λ q. omega (arith, digit-least byte (first-of (is-digit byte) (all is-digit rest) e))))
+    (digits-inner rest (second-of (is-digit byte) (all is-digit rest) e))
+
+decimal-inner : (z : ℤ) → all is-inner (decimal z) ≡ true
+unfolding decimal all
+decimal-inner (pos n) = digits-inner (digits n) (all-are-digits n)
+decimal-inner (negsuc n) = digits-inner (digits (suc n)) (all-are-digits (suc n))
+
+-- a word with no space in it is the first one
+word-first : (s rest : List ℕ) → all is-inner s ≡ true → words (s ++ space ∷ rest) ≡ s ∷ words rest
+unfolding all words longer
+word-first [] rest e = refl
+word-first (byte ∷ s) rest e = ?
+
+word-only : (s : List ℕ) → all is-inner s ≡ true → words s ≡ s ∷ []
+unfolding all words longer
+word-only [] e = refl
+word-only (byte ∷ s) e = ?

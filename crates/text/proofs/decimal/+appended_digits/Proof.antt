@@ -1,130 +1,68 @@
-use Prim.Native.Nat.{ℕ, _<_}
+-- `text::decimal::appended_digits` meets its contract. The measure is the number.
+use mathlib.Core.List.{List, [], _∷_}
+use mathlib.Core.Path.{_∙_, _≡_, ap, subst, sym}
+use Prim.Native.Nat.{_%_, _+_, _/_, _<_, _≤_, ℕ}
+use native.Mathlib.Omega.{arith}
+use lib.ListN.{length, length-append}
 use borrow.Fn.Kinds.{In}
-use borrow.Fn.PlainCycle.{Measures, is, falls, and}
-use Rattle.text.proofs.decimal.appended_digits.Reads as appended-digits
-use Rattle.text.proofs.decimal.appended_digits.Kinds as appended-digits-kinds
-use Rattle.text.proofs.decimal.+appended_digits.Lts-appended_digits as appended-digits-lts
-use Rattle.text.proofs.decimal.appended_byte.Reads as appended-byte-reads
+use borrow.Fn.PlainCycle.{Measures, and, falls, is}
+use Rattle.text.specs.Decimal.{Appended, digits}
+use Rattle.text.proofs.DecimalLaws.{appended-length, appended-twice, more-digits, one-digit}
+use Rattle.text.proofs.decimal.appended_byte.Reads as byte
+use Rattle.text.proofs.decimal.appended_digits.Kinds as digits-kinds
+use Rattle.text.proofs.decimal.appended_digits.Reads as own
 use Rattle.text.proofs.decimal.+appended_digits.{statement}
+use Rattle.text.proofs.decimal.+appended_digits.Lts-appended_digits as digits-lts
 use Rattle.text.proofs.decimal.+appended_digits.Tie.{close}
 
-abbrev μ-appended-digits : Measures 0 appended-digits-kinds.ps ℕ
-μ-appended-digits κs a = a .1 .0
+abbrev measure : Measures 0 digits-kinds.ps ℕ
+measure κs a = a .1 .0
 
-abbrev appended-digits-at : ℕ → In 0 appended-digits-kinds.ps
-appended-digits-at t =
-    and
-    0
-    appended-digits-kinds.ps
-    (is 0 appended-digits-kinds.ps μ-appended-digits t)
-    appended-digits.Pre
+-- what the function is given at the measure t, and what a call of it asks below t
+abbrev digits-at : ℕ → In 0 digits-kinds.ps
+digits-at t = and 0 digits-kinds.ps (is 0 digits-kinds.ps measure t) own.Pre
 
-abbrev appended-digits-below : ℕ → In 0 appended-digits-kinds.ps
-appended-digits-below t =
-    and
-    0
-    appended-digits-kinds.ps
-    (falls 0 appended-digits-kinds.ps _<_ μ-appended-digits t)
-    appended-digits.Pre
+abbrev digits-below : ℕ → In 0 digits-kinds.ps
+digits-below t = and 0 digits-kinds.ps (falls 0 digits-kinds.ps _<_ measure t) own.Pre
 
--- src/decimal.rt:54:43
-appended-digits-cast-appended-byte : (t : ℕ) → appended-digits-lts.Need-cast-appended-byte (
-  appended-byte-reads.Asked,
-  appended-byte-reads.Learnt,
-  appended-digits-below t,
-  appended-digits.Post,
-) (appended-digits-at t) appended-digits.Post
-appended-digits-cast-appended-byte t c = ?
+one-longer : (n : ℕ) → 10 ≤ n → length (digits n) ≡ length (digits (n / 10)) + 1
+one-longer n h = ap length (more-digits n h) ∙ length-append (digits (n / 10)) ((48 + n % 10) ∷ [])
 
--- src/decimal.rt:54:36
-appended-digits-add-appended-byte : (t : ℕ) → appended-digits-lts.Need-add-appended-byte (
-  appended-byte-reads.Asked,
-  appended-byte-reads.Learnt,
-  appended-digits-below t,
-  appended-digits.Post,
-) (appended-digits-at t) appended-digits.Post
-appended-digits-add-appended-byte t c = ?
+cast-one : (t : ℕ) → digits-lts.Need-cast-appended-byte (byte.Asked, byte.Learnt, digits-below t, own.Post) (digits-at t) own.Post
+cast-one t c = record { fits = omega (arith, c .if1 .taken) }
 
--- src/decimal.rt:54:9
-appended-digits-appended-byte-requires : (t : ℕ) → appended-digits-lts.Need-appended-byte-requires (
-  appended-byte-reads.Asked,
-  appended-byte-reads.Learnt,
-  appended-digits-below t,
-  appended-digits.Post,
-) (appended-digits-at t) appended-digits.Post
-appended-digits-appended-byte-requires t c κs = ?
+add-one : (t : ℕ) → digits-lts.Need-add-appended-byte (byte.Asked, byte.Learnt, digits-below t, own.Post) (digits-at t) own.Post
+add-one t c = record { fits = omega (arith, c .if1 .taken) }
 
--- src/decimal.rt:54:9
-appended-digits-returns : (t : ℕ) → appended-digits-lts.Need-returns (
-  appended-byte-reads.Asked,
-  appended-byte-reads.Learnt,
-  appended-digits-below t,
-  appended-digits.Post,
-) (appended-digits-at t) appended-digits.Post
-appended-digits-returns t c = ?
+one-requires : (t : ℕ) → digits-lts.Need-appended-byte-requires (byte.Asked, byte.Learnt, digits-below t, own.Post) (digits-at t) own.Post
+one-requires t c κs = omega (arith, c .before .pre .1, ap length (one-digit (c .before .args .n) (c .if1 .taken)))
 
--- src/decimal.rt:56:9
-appended-digits-appended-digits-requires :
-    (t : ℕ) → appended-digits-lts.Need-appended-digits-requires (
-      appended-byte-reads.Asked,
-      appended-byte-reads.Learnt,
-      appended-digits-below t,
-      appended-digits.Post,
-    ) (appended-digits-at t) appended-digits.Post
-appended-digits-appended-digits-requires t c κs = ?
+returns : (t : ℕ) → digits-lts.Need-returns (byte.Asked, byte.Learnt, digits-below t, own.Post) (digits-at t) own.Post
+returns t c =
+    let a = c .before .before .args in
+    subst (λ (s : List ℕ). Appended (a .text) s (c .appended-byte .result)) (sym (one-digit (a .n) (c .before .if1 .taken))) (c .appended-byte .ensures)
 
--- src/decimal.rt:57:34
-appended-digits-cast-appended-byte-2 : (t : ℕ) → appended-digits-lts.Need-cast-appended-byte-2 (
-  appended-byte-reads.Asked,
-  appended-byte-reads.Learnt,
-  appended-digits-below t,
-  appended-digits.Post,
-) (appended-digits-at t) appended-digits.Post
-appended-digits-cast-appended-byte-2 t c = ?
+before-requires : (t : ℕ) → digits-lts.Need-appended-digits-requires (byte.Asked, byte.Learnt, digits-below t, own.Post) (digits-at t) own.Post
+before-requires t c κs = (omega (arith, c .before .pre .0, c .if1 .left), omega (arith, c .before .pre .1, one-longer (c .before .args .n) (c .if1 .left)))
 
--- src/decimal.rt:57:27
-appended-digits-add-appended-byte-2 : (t : ℕ) → appended-digits-lts.Need-add-appended-byte-2 (
-  appended-byte-reads.Asked,
-  appended-byte-reads.Learnt,
-  appended-digits-below t,
-  appended-digits.Post,
-) (appended-digits-at t) appended-digits.Post
-appended-digits-add-appended-byte-2 t c = ?
+cast-last : (t : ℕ) → digits-lts.Need-cast-appended-byte-2 (byte.Asked, byte.Learnt, digits-below t, own.Post) (digits-at t) own.Post
+cast-last t c = record { fits = omega arith }
 
--- src/decimal.rt:57:5
-appended-digits-appended-byte-requires-2 :
-    (t : ℕ) → appended-digits-lts.Need-appended-byte-requires-2 (
-      appended-byte-reads.Asked,
-      appended-byte-reads.Learnt,
-      appended-digits-below t,
-      appended-digits.Post,
-    ) (appended-digits-at t) appended-digits.Post
-appended-digits-appended-byte-requires-2 t c κs = ?
+add-last : (t : ℕ) → digits-lts.Need-add-appended-byte-2 (byte.Asked, byte.Learnt, digits-below t, own.Post) (digits-at t) own.Post
+add-last t c = record { fits = omega arith }
 
--- src/decimal.rt:49:1
-appended-digits-returns-2 : (t : ℕ) → appended-digits-lts.Need-returns-2 (
-  appended-byte-reads.Asked,
-  appended-byte-reads.Learnt,
-  appended-digits-below t,
-  appended-digits.Post,
-) (appended-digits-at t) appended-digits.Post
-appended-digits-returns-2 t c = ?
+last-requires : (t : ℕ) → digits-lts.Need-appended-byte-requires-2 (byte.Asked, byte.Learnt, digits-below t, own.Post) (digits-at t) own.Post
+last-requires t c κs =
+    let s = c .before .before in
+    omega (arith, s .pre .1, one-longer (s .args .n) (c .before .if1 .left), appended-length (c .appended-digits .ensures))
+
+returns-2 : (t : ℕ) → digits-lts.Need-returns-2 (byte.Asked, byte.Learnt, digits-below t, own.Post) (digits-at t) own.Post
+returns-2 t c =
+    let a = c .before .before .before .args in
+    subst (λ (s : List ℕ). Appended (a .text) s (c .appended-byte2 .result)) (sym (more-digits (a .n) (c .before .before .if1 .left)))
+    (appended-twice (c .before .appended-digits .ensures) (c .appended-byte2 .ensures))
 
 pub +appended-digits-spec : {M : Type 1} → statement M
-+appended-digits-spec = close μ-appended-digits λ t. appended-digits-lts.spec (
-  appended-byte-reads.Asked,
-  appended-byte-reads.Learnt,
-  appended-digits-below t,
-  appended-digits.Post,
-)
-    (appended-digits-at t)
-    appended-digits.Post
-    (appended-digits-cast-appended-byte t)
-    (appended-digits-add-appended-byte t)
-    (appended-digits-appended-byte-requires t)
-    (appended-digits-returns t)
-    (appended-digits-appended-digits-requires t)
-    (appended-digits-cast-appended-byte-2 t)
-    (appended-digits-add-appended-byte-2 t)
-    (appended-digits-appended-byte-requires-2 t)
-    (appended-digits-returns-2 t)
++appended-digits-spec =
+    close measure
+    (λ t. digits-lts.spec (byte.Asked, byte.Learnt, digits-below t, own.Post) (digits-at t) own.Post (cast-one t) (add-one t) (one-requires t) (returns t) (before-requires t) (cast-last t) (add-last t) (last-requires t) (returns-2 t))
