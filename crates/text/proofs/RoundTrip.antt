@@ -8,11 +8,11 @@ use native.Mathlib.Nat.{div-add-mod'}
 use native.Mathlib.Omega.{arith}
 use lib.Dec.{eqb, leb}
 use lib.IntN.{natAbs, negsuc, negℤ, pos, ℤ}
-use lib.ListN.{length, length-append}
-use borrow.Author.Tests.{eq-eqb, le-leb, ne-eqb}
+use lib.ListN.{length, length-append, length-map}
+use borrow.Author.Tests.{le-leb, ltb-true, ne-eqb, not-true}
 use Rattle.text.specs.Decimal.{decimal, digits}
 use Rattle.text.specs.Line.{all, is-digit, is-natural, is-negative, is-number, line-numbers, longer, minus, natural, number, space, value, value-after, words}
-use Rattle.text.specs.RoundTrip.{AllShort, LineAgain, NumberAgain, Short, ValueAgain, more, printed}
+use Rattle.text.specs.RoundTrip.{LineAgain, NumberAgain, ValueAgain, is-short, printed}
 use Rattle.text.proofs.DecimalLaws.{each-number, few-digits, more-digits, one-digit}
 use Rattle.text.proofs.LineLaws.{digit-least, digit-most, first-of, number-bare, number-behind, right-length, second-of, value-bare, value-behind}
 use Rattle.text.proofs.WordLaws.{all-append, all-numbers}
@@ -78,14 +78,15 @@ value-again (negsuc n) = value-behind (minus ∷ digits (suc n)) (minus-first (d
 natural-digits : (n : ℕ) → n < 1_000_000_000 → is-natural (digits n) ≡ true
 natural-digits n h = sym (right-length (digits n) (some-digit n) (few-digits 8 n h)) ∙ all-are-digits n
 
-is-number-again : (z : ℤ) → Short z → is-number (decimal z) ≡ true
+is-number-again : (z : ℤ) → is-short z ≡ true → is-number (decimal z) ≡ true
 unfolding decimal
-is-number-again (pos n) h = number-bare (digits n) (no-minus-in n) ∙ natural-digits n h
-is-number-again (negsuc n) h = number-behind (minus ∷ digits (suc n)) (minus-first (digits (suc n))) ∙ natural-digits (suc n) h
+is-number-again (pos n) e = number-bare (digits n) (no-minus-in n) ∙ natural-digits n (ltb-true n 1_000_000_000 e)
+is-number-again (negsuc n) e =
+    number-behind (minus ∷ digits (suc n)) (minus-first (digits (suc n))) ∙ natural-digits (suc n) (ltb-true (suc n) 1_000_000_000 e)
 
 pub number-again : NumberAgain
 unfolding number
-number-again z h = ap₂ (λ (p : Bool) (v : ℤ). cond p (some v) none) (is-number-again z h) (value-again z)
+number-again z e = ap₂ (λ (p : Bool) (v : ℤ). cond p (some v) none) (is-number-again z e) (value-again z)
 
 -- ---- a line
 
@@ -110,9 +111,37 @@ decimal-inner (negsuc n) = digits-inner (digits (suc n)) (all-are-digits (suc n)
 word-first : (s rest : List ℕ) → all is-inner s ≡ true → words (s ++ space ∷ rest) ≡ s ∷ words rest
 unfolding all words longer
 word-first [] rest e = refl
-word-first (byte ∷ s) rest e = ?
+word-first (byte ∷ s) rest e =
+    ap₂ (λ (p : Bool) (list : List (List ℕ)). cond p ([] ∷ words (s ++ space ∷ rest)) (longer byte list))
+    (not-true (eqb byte space) (first-of (is-inner byte) (all is-inner s) e)) (word-first s rest (second-of (is-inner byte) (all is-inner s) e))
 
 word-only : (s : List ℕ) → all is-inner s ≡ true → words s ≡ s ∷ []
 unfolding all words longer
 word-only [] e = refl
-word-only (byte ∷ s) e = ?
+word-only (byte ∷ s) e =
+    ap₂ (λ (p : Bool) (list : List (List ℕ)). cond p ([] ∷ words s) (longer byte list))
+    (not-true (eqb byte space) (first-of (is-inner byte) (all is-inner s) e)) (word-only s (second-of (is-inner byte) (all is-inner s) e))
+
+words-again : (first : ℤ) (rest : List ℤ) → words (printed first rest) ≡ map decimal (first ∷ rest)
+unfolding printed
+words-again first [] = word-only (decimal first) (decimal-inner first)
+words-again first (next ∷ rest) =
+    word-first (decimal first) (printed next rest) (decimal-inner first) ∙ ap (λ (list : List (List ℕ)). decimal first ∷ list) (words-again next rest)
+
+numbers-again : (list : List ℤ) → all is-short list ≡ true → all is-number (map decimal list) ≡ true
+unfolding all
+numbers-again [] e = refl
+numbers-again (z ∷ rest) e =
+    ap₂ _&&_ (is-number-again z (first-of (is-short z) (all is-short rest) e)) (numbers-again rest (second-of (is-short z) (all is-short rest) e))
+
+values-again : (list : List ℤ) → map value (map decimal list) ≡ list
+values-again [] = refl
+values-again (z ∷ rest) = ap₂ _∷_ (value-again z) (values-again rest)
+
+pub line-again : LineAgain
+line-again first rest e =
+    let line = printed first rest in
+    all-numbers (length (first ∷ rest)) line
+    (ap length (words-again first rest) ∙ length-map (first ∷ rest) decimal)
+    (ap (all is-number) (words-again first rest) ∙ numbers-again (first ∷ rest) e)
+    ∙ ap some (ap (map value) (words-again first rest) ∙ values-again (first ∷ rest))
