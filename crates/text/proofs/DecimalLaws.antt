@@ -1,8 +1,8 @@
 -- Digits of a number, and texts that grow.
-use mathlib.Core.Bool.{Bool, _&&_, cond, false, true}
+use mathlib.Core.Bool.{Bool, cond, false, true}
 use mathlib.Core.List.{List, [], _∷_, _++_, append-assoc, append-nil}
 use mathlib.Core.Path.{_∙_, _≡_, ap, refl, subst, sym}
-use Prim.Native.Nat.{_%_, _*_, _+_, _-_, _/_, _<_, _^_, _≤_, suc, zero, ℕ}
+use Prim.Native.Nat.{_%_, _+_, _/_, _<_, _^_, _≤_, suc, zero, ℕ}
 use native.Mathlib.Nat.{add-suc, add-zero, div-lt-iff-lt-mul, not-suc-le-zero, pow-suc, suc-add}
 use native.Mathlib.Omega.{arith}
 use lib.Dec.{ltb, ltb→lt}
@@ -39,7 +39,7 @@ module _ (text : Text) (added : List ℕ) (h : text .length + length added ≤ l
   in-use-then =
       ap (take (text .length + length added)) (sets-eq added (text .bytes) (text .length) h)
       ∙ take-at (written text ++ added) (drop (text .length + length added) (text .bytes)) (text .length + length added)
-        (length-append (written text) added ∙ ap (λ (n : ℕ). n + length added) (length-take-le (text .length) (text .bytes) (omega arith)))
+      (length-append (written text) added ∙ ap (λ (n : ℕ). n + length added) (length-take-le (text .length) (text .bytes) (omega arith)))
 
   pub appended : {next : Text} → next ≡ (text followed-by added) → Appended text added next
   appended e = record { whole = e; in-use = ap written e ∙ in-use-then }

@@ -9,7 +9,6 @@ use lib.IntN.{pos, ℤ}
 use lib.ListN.{drop, length, length-append, length-map, replicate, set}
 use lib.Seq.{append-snoc, set-at}
 use Rattle.text.specs.Line.{all, answer, is-number, line-numbers, value, words}
-use Rattle.text.specs.declared.line.Numbers.{Numbers}
 use Rattle.text.proofs.WordLaws.{all-append, all-numbers, end-within, left, left-none, left-split, left-words, other-count, other-word, word-at, word-end}
 
 pub record Reading (line : List ℕ) (start count : ℕ) (values : List ℤ) (at k : ℕ) : Type 0 where
@@ -69,7 +68,7 @@ module _ {line : List ℕ} {start count : ℕ} {values : List ℤ} {at k : ℕ} 
           ∙ set-at (map value (r .done)) (pos 0) (replicate (12 - (k + 1)) (pos 0)) v k (length-map (r .done) value ∙ r .counted)
           ∙ sym (append-snoc (map value (r .done)) v (replicate (12 - (k + 1)) (pos 0)))
           ∙ ap (λ (list : List ℤ). list ++ replicate (12 - (k + 1)) (pos 0))
-            (ap (λ (z : ℤ). map value (r .done) ++ (z ∷ [])) same ∙ sym (map-append value (r .done) (word-at line at ∷ [])))
+          (ap (λ (z : ℤ). map value (r .done) ++ (z ∷ [])) same ∙ sym (map-append value (r .done) (word-at line at ∷ [])))
         where
           room : 12 - k ≡ suc (12 - (k + 1))
           room = omega arith

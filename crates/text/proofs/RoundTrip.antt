@@ -4,17 +4,16 @@ use mathlib.Core.List.{List, [], _∷_, _++_, map}
 use mathlib.Core.Option.{none, some}
 use mathlib.Core.Path.{_∙_, _≡_, ap, ap₂, refl, sym}
 use Prim.Native.Nat.{_%_, _*_, _+_, _-_, _/_, _<_, _≤_, suc, ℕ}
-use native.Mathlib.Nat.{div-add-mod'}
 use native.Mathlib.Omega.{arith}
-use lib.Dec.{eqb, leb}
-use lib.IntN.{natAbs, negsuc, negℤ, pos, ℤ}
+use lib.Dec.{eqb}
+use lib.IntN.{negsuc, negℤ, pos, ℤ}
 use lib.ListN.{length, length-append, length-map}
 use borrow.Author.Tests.{le-leb, ltb-true, ne-eqb, not-true}
 use Rattle.text.specs.Decimal.{decimal, digits}
-use Rattle.text.specs.Line.{all, is-digit, is-natural, is-negative, is-number, line-numbers, longer, minus, natural, number, space, value, value-after, words}
+use Rattle.text.specs.Line.{all, is-digit, is-natural, is-negative, is-number, longer, minus, natural, number, space, value, value-after, words}
 use Rattle.text.specs.RoundTrip.{LineAgain, NumberAgain, ValueAgain, is-short, printed}
 use Rattle.text.proofs.DecimalLaws.{each-number, few-digits, more-digits, one-digit}
-use Rattle.text.proofs.LineLaws.{digit-least, digit-most, first-of, number-bare, number-behind, right-length, second-of, value-bare, value-behind}
+use Rattle.text.proofs.LineLaws.{digit-least, first-of, number-bare, number-behind, right-length, second-of, value-bare, value-behind}
 use Rattle.text.proofs.WordLaws.{all-append, all-numbers}
 
 -- ---- the digits of a number

@@ -3,13 +3,13 @@ use mathlib.Core.Bool.{Bool, _&&_, cond, false, true}
 use mathlib.Core.List.{List, [], _∷_, _++_, map}
 use mathlib.Core.Logic.{⊎-elim}
 use mathlib.Core.Option.{Option, none, some}
-use mathlib.Core.Path.{_∙_, _≡_, ap, ap₂, refl, sym}
-use Prim.Native.Nat.{_+_, _-_, _<_, _≤_, suc, zero, ℕ}
+use mathlib.Core.Path.{_∙_, _≡_, ap, refl, sym}
+use Prim.Native.Nat.{_+_, _<_, _≤_, suc, ℕ}
 use native.Mathlib.Nat.{eq-or-lt-of-le}
 use native.Mathlib.Omega.{arith}
 use lib.Dec.{eqb, leb}
 use lib.IntN.{ℤ}
-use lib.ListN.{drop, drop-of-length-le, length, length-append, length-drop, take}
+use lib.ListN.{drop, drop-of-length-le, length, length-drop, take}
 use lib.Seq.{drop-drop}
 use borrow.Author.Tests.{eq-eqb, le-leb, lt-leb, ne-eqb}
 use Rattle.text.specs.Line.{all, is-number, line-numbers, longer, numbers, space, value, word-length, words}
@@ -27,7 +27,7 @@ words-split (byte ∷ rest) = by-test (eqb byte space) (words-split rest)
   where
     by-test : (p : Bool) → words rest ≡ take (word-length rest) rest ∷ after-word (drop (word-length rest) rest)
         → cond p ([] ∷ words rest) (longer byte (words rest))
-          ≡ take (cond p 0 (suc (word-length rest))) (byte ∷ rest) ∷ after-word (drop (cond p 0 (suc (word-length rest))) (byte ∷ rest))
+        ≡ take (cond p 0 (suc (word-length rest))) (byte ∷ rest) ∷ after-word (drop (cond p 0 (suc (word-length rest))) (byte ∷ rest))
     by-test true e = refl
     by-test false e = ap (longer byte) e
 

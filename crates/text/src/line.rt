@@ -73,7 +73,11 @@ fn natural(word: &[u8]) -> u64
 fn is_negative(word: &[u8]) -> bool
     ensures { λ r. ⌜ r ≡ is-negative (now (word .entry)) ⌝ }
 {
-    if word.len() == 0 { false } else { word[0] == b'-' }
+    if word.len() == 0 {
+        false
+    } else {
+        word[0] == b'-'
+    }
 }
 
 pub fn is_number(word: &[u8]) -> bool

@@ -42,9 +42,11 @@ loop-less c = search needs
 loop-again : tie.Need-loop-again Inv-loop μ-loop
 loop-again c =
     let l = c .before .before .before in
-    let added = l .before .before .args .added .now in
-    (search needs, subst (λ (s : List ℕ). Appended (l .before .before .args .text) s (c .appended-byte .result)) (taken-more added (l .loop .i) (c .before .before .loop-test .taken))
-    (appended-twice (l .loop .inv .1) (c .appended-byte .ensures)))
+    let added = l .before .before .args .added .now in (
+      search needs,
+      subst (λ (s : List ℕ). Appended (l .before .before .args .text) s (c .appended-byte .result)) (taken-more added (l .loop .i) (c .before .before .loop-test .taken))
+          (appended-twice (l .loop .inv .1) (c .appended-byte .ensures)),
+    )
 
 returns : tie.Need-returns Inv-loop μ-loop
 returns c =

@@ -9,7 +9,7 @@ use lib.Signed.{natAbs-le}
 use borrow.Author.Needs.{needs}
 use Rattle.text.specs.Line.{minus}
 use Rattle.numbers.proofs.Machine.{any, less, lit, not-less}
-use Rattle.text.specs.Decimal.{Appended, decimal, digits}
+use Rattle.text.specs.Decimal.{Appended, digits}
 use Rattle.text.proofs.DecimalLaws.{appended-length, appended-twice, below-zero, few-digits, from-zero}
 use Rattle.text.proofs.decimal.appended_number.Statement.{statement}
 use Rattle.text.proofs.decimal.appended_number.Tie as tie

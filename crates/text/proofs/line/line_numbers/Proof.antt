@@ -1,17 +1,15 @@
 -- `text::line::line_numbers` meets its contract. The invariant: `Reading`.
-use mathlib.Core.Bool.{true}
 use mathlib.Core.List.{List}
 use mathlib.Core.Path.{_∙_, _≡_, ap, sym}
 use Prim.Native.Nat.{_+_, _-_, _≤_, ℕ}
 use native.Mathlib.Omega.{arith}
-use lib.IntN.{ℤ}
 use lib.ListN.{drop, length, take}
 use mir.Syntax.{w64}
 use mir.Val.{ofZ, toZ}
 use borrow.Author.Needs.{needs}
 use borrow.Author.Tests.{not-false, not-true}
 use Rattle.numbers.proofs.Machine.{passed}
-use Rattle.text.specs.Line.{answer, is-number, line-numbers, value, word-length}
+use Rattle.text.specs.Line.{answer, is-number, value, word-length}
 use Rattle.text.proofs.LineLaws.{to-end}
 use Rattle.text.proofs.Reading.{Reading, all-read, begun, no-number, one-more, too-few, too-many}
 use Rattle.text.proofs.WordLaws.{end-within, word-at, word-end}

@@ -1,8 +1,7 @@
 -- `text::line::value` meets its contract.
 use mathlib.Core.Bool.{false, true}
 use mathlib.Core.Path.{_∙_, _≡_, ap, sym}
-use Prim.Native.Nat.{_<_, _≤_, ℕ}
-use native.Mathlib.Nat.{le-of-lt}
+use Prim.Native.Nat.{_≤_, ℕ}
 use native.Mathlib.Omega.{arith}
 use lib.IntN.{negℤ, pos}
 use lib.ListN.{drop}
