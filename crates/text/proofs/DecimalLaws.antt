@@ -73,10 +73,9 @@ enough zero j n h l = absurd (not-suc-le-zero h)
 enough (suc k) zero n h l = absurd (not-suc-le-zero l)
 enough (suc k) (suc j) n h l = by-test (ltb n 10) refl (λ m. enough k j (n / 10) (omega arith) (omega arith))
   where
-    by-test : (p : Bool) → ltb n 10 ≡ p → (10 ≤ n → last-digits k (n / 10) ≡ last-digits j (n / 10))
-        → cond p ((48 + n) ∷ []) (last-digits k (n / 10) ++ ((48 + n % 10) ∷ [])) ≡ cond p ((48 + n) ∷ []) (last-digits j (n / 10) ++ ((48 + n % 10) ∷ []))
-    by-test true e same = refl
-    by-test false e same = ap (λ (s : List ℕ). s ++ ((48 + n % 10) ∷ [])) (same (ltb-false n 10 e))
+    by-test : (p : Bool) → ltb n 10 ≡ p → (10 ≤ n → last-digits k (n / 10) ≡ last-digits j (n / 10)) → last-digits (suc k) n ≡ last-digits (suc j) n
+    by-test true e same = simp e
+    by-test false e same = simp (e, same (ltb-false n 10 e))
 
 module _ (n : ℕ) where
   pub one-digit : n < 10 → digits n ≡ (48 + n) ∷ []
