@@ -3,3 +3,4 @@ pub mod WordLaws
 pub mod Reading
 pub mod DecimalLaws
 pub mod RoundTrip
+pub mod CasesHold

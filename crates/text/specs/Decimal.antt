@@ -13,7 +13,9 @@ use Rattle.text.specs.declared.decimal.Text.{Text}
 -- at most k digits, the last ones of n, with no zero in front
 unfoldable pub last-digits : ℕ → ℕ → List ℕ
 last-digits zero n = []
-last-digits (suc k) n = cond (ltb n 10) ((48 + n) ∷ []) (last-digits k (n / 10) ++ ((48 + n % 10) ∷ []))
+last-digits (suc k) n =
+    let before = last-digits k (n / 10) in
+    cond (ltb n 10) ((48 + n) ∷ []) (before ++ ((48 + n % 10) ∷ []))
 
 -- a number has no more digits than one more than itself
 unfoldable pub digits : ℕ → List ℕ

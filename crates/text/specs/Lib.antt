@@ -1,3 +1,4 @@
 pub mod Line
 pub mod Decimal
 pub mod RoundTrip
+pub mod Cases

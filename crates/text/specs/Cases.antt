@@ -1,0 +1,43 @@
+-- Lines as they are typed, with what they are, and numbers as they are printed.
+use mathlib.Core.List.{List, [], _∷_}
+use mathlib.Core.Option.{Option, none, some}
+use mathlib.Core.Path.{_≡_}
+use Prim.Native.Char.{code}
+use Prim.Native.Nat.{ℕ}
+use Prim.Native.String.{String, [] as no-more, _∷_ as _before_}
+use lib.IntN.{ℤ, negsuc, pos}
+use Rattle.text.specs.Decimal.{decimal}
+use Rattle.text.specs.Line.{line-numbers}
+
+-- the bytes of a quoted text, which are ASCII here
+unfoldable pub bytes : String → List ℕ
+bytes no-more = []
+bytes (character before rest) = code character ∷ bytes rest
+
+pub data Case : Type 0 where
+  line-of : ℕ → String → Option (List ℤ) → Case
+  print-of : ℤ → String → Case
+
+abbrev pub Holds : Case → Type 0
+Holds (line-of count line answer) = line-numbers count (bytes line) ≡ answer
+Holds (print-of z line) = decimal z ≡ bytes line
+
+abbrev pub cases : List Case
+cases =
+    line-of 9 "2000 1 2 12 0 0 0 -9 80000"
+      (some (pos 2000 ∷ pos 1 ∷ pos 2 ∷ pos 12 ∷ pos 0 ∷ pos 0 ∷ pos 0 ∷ negsuc 8 ∷ pos 80000 ∷ [])) ∷
+    line-of 3 "-0 007 -999999999" (some (pos 0 ∷ pos 7 ∷ negsuc 999999998 ∷ [])) ∷
+    line-of 2 "1 2 3" none ∷
+    line-of 1 "" none ∷
+    line-of 1 " 1" none ∷
+    line-of 1 "1 " none ∷
+    line-of 2 "1  2" none ∷
+    line-of 2 "1\t2" none ∷
+    line-of 1 "1\r" none ∷
+    line-of 1 "+1" none ∷
+    line-of 1 "-" none ∷
+    line-of 1 "--1" none ∷
+    line-of 1 "0000000001" none ∷
+    print-of (pos 0) "0" ∷
+    print-of (negsuc 9) "-10" ∷
+    print-of (negsuc 9223372036854775807) "-9223372036854775808" ∷ []
