@@ -25,7 +25,7 @@ Holds (print-of z line) = decimal z ≡ bytes line
 abbrev pub cases : List Case
 cases =
     line-of 9 "2000 1 2 12 0 0 0 -9 80000"
-      (some (pos 2000 ∷ pos 1 ∷ pos 2 ∷ pos 12 ∷ pos 0 ∷ pos 0 ∷ pos 0 ∷ negsuc 8 ∷ pos 80000 ∷ [])) ∷
+    (some (pos 2000 ∷ pos 1 ∷ pos 2 ∷ pos 12 ∷ pos 0 ∷ pos 0 ∷ pos 0 ∷ negsuc 8 ∷ pos 80000 ∷ [])) ∷
     line-of 3 "-0 007 -999999999" (some (pos 0 ∷ pos 7 ∷ negsuc 999999998 ∷ [])) ∷
     line-of 2 "1 2 3" none ∷
     line-of 1 "" none ∷

@@ -10,14 +10,14 @@ use lib.Seq.{sets}
 use Rattle.text.specs.Line.{minus}
 use Rattle.text.specs.declared.decimal.Text.{Text}
 
--- at most k digits, the last ones of n, with no zero in front
+-- the last digits of n, as many as there is room for, with no zero in front
 unfoldable pub last-digits : ℕ → ℕ → List ℕ
 last-digits zero n = []
-last-digits (suc k) n =
-    let before = last-digits k (n / 10) in
+last-digits (suc room) n =
+    let before = last-digits room (n / 10) in
     cond (ltb n 10) ((48 + n) ∷ []) (before ++ ((48 + n % 10) ∷ []))
 
--- a number has no more digits than one more than itself
+-- room for one digit more than the number itself is always enough
 unfoldable pub digits : ℕ → List ℕ
 digits n = last-digits (suc n) n
 

@@ -17,7 +17,7 @@ minus = 45
 -- every entry passes the test
 unfoldable pub all : {A : Type 0} → (A → Bool) → List A → Bool
 all test [] = true
-all test (x ∷ rest) = test x && all test rest
+all test (entry ∷ rest) = test entry && all test rest
 
 -- one byte more at the front of the first word
 unfoldable pub longer : ℕ → List (List ℕ) → List (List ℕ)

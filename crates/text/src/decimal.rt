@@ -37,24 +37,24 @@ pub fn appended_bytes(text: Text, added: &[u8]) -> Text
     ensures { λ r. ⌜ Appended text (now (added .entry)) r ⌝ }
 {
     let mut next = text;
-    let mut i = 0;
-    while i < added.len() {
-        next = appended_byte(next, added[i]);
-        i += 1;
+    let mut at = 0;
+    while at < added.len() {
+        next = appended_byte(next, added[at]);
+        at += 1;
     }
     next
 }
 
 // The digits before the last one, and the last one: no more calls within calls than a number has digits.
-fn appended_digits(text: Text, n: u64) -> Text
-    requires { ⌜ text .length + length (digits n) ≤ 80 ⌝ }
-    ensures { λ r. ⌜ Appended text (digits n) r ⌝ }
+fn appended_digits(text: Text, size: u64) -> Text
+    requires { ⌜ text .length + length (digits size) ≤ 80 ⌝ }
+    ensures { λ r. ⌜ Appended text (digits size) r ⌝ }
 {
-    if n < 10 {
-        return appended_byte(text, b'0' + n as u8);
+    if size < 10 {
+        return appended_byte(text, b'0' + size as u8);
     }
-    let before = appended_digits(text, n / 10);
-    appended_byte(before, b'0' + (n % 10) as u8)
+    let before = appended_digits(text, size / 10);
+    appended_byte(before, b'0' + (size % 10) as u8)
 }
 
 // Any number, also the least, has 20 bytes at most.

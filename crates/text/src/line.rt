@@ -16,14 +16,14 @@ pub struct Numbers {
 pub fn word_length(line: &[u8]) -> usize
     ensures { λ r. ⌜ r ≡ word-length (now (line .entry)) ⌝ }
 {
-    let mut i = 0;
-    while i < line.len() {
-        if line[i] == b' ' {
-            return i;
+    let mut at = 0;
+    while at < line.len() {
+        if line[at] == b' ' {
+            return at;
         }
-        i += 1;
+        at += 1;
     }
-    i
+    at
 }
 
 fn is_digit(byte: u8) -> bool
@@ -35,12 +35,12 @@ fn is_digit(byte: u8) -> bool
 fn are_digits(word: &[u8]) -> bool
     ensures { λ r. ⌜ r ≡ all is-digit (now (word .entry)) ⌝ }
 {
-    let mut i = 0;
-    while i < word.len() {
-        if !is_digit(word[i]) {
+    let mut at = 0;
+    while at < word.len() {
+        if !is_digit(word[at]) {
             return false;
         }
-        i += 1;
+        at += 1;
     }
     true
 }
@@ -62,10 +62,10 @@ fn natural(word: &[u8]) -> u64
     ensures { λ r. ⌜ r ≡ natural (now (word .entry)) ⌝ }
 {
     let mut value: u64 = 0;
-    let mut i = 0;
-    while i < word.len() {
-        value = value * 10 + (word[i] - b'0') as u64;
-        i += 1;
+    let mut at = 0;
+    while at < word.len() {
+        value = value * 10 + (word[at] - b'0') as u64;
+        at += 1;
     }
     value
 }
@@ -119,8 +119,8 @@ pub fn line_numbers(line: &[u8], start: usize, count: usize) -> Numbers
 {
     let mut values = [0; 12];
     let mut at = start;
-    let mut k = 0;
-    while k < count {
+    let mut found = 0;
+    while found < count {
         // past the end there is no word, at the end an empty one
         if at > line.len() {
             return other();
@@ -129,9 +129,9 @@ pub fn line_numbers(line: &[u8], start: usize, count: usize) -> Numbers
         if !is_number(&line[at..end]) {
             return other();
         }
-        values[k] = value(&line[at..end]);
+        values[found] = value(&line[at..end]);
         at = end + 1;
-        k += 1;
+        found += 1;
     }
     if at <= line.len() {
         return other();

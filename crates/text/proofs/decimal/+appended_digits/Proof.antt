@@ -35,15 +35,15 @@ add-one : (t : ℕ) → digits-lts.Need-add-appended-byte (byte.Asked, byte.Lear
 add-one t c = record { fits = omega (arith, c .if1 .taken) }
 
 one-requires : (t : ℕ) → digits-lts.Need-appended-byte-requires (byte.Asked, byte.Learnt, digits-below t, own.Post) (digits-at t) own.Post
-one-requires t c κs = omega (arith, c .before .pre .1, ap length (one-digit (c .before .args .n) (omega (arith, c .if1 .taken))))
+one-requires t c κs = omega (arith, c .before .pre .1, ap length (one-digit (c .before .args .size) (omega (arith, c .if1 .taken))))
 
 returns : (t : ℕ) → digits-lts.Need-returns (byte.Asked, byte.Learnt, digits-below t, own.Post) (digits-at t) own.Post
 returns t c =
     let a = c .before .before .args in
-    subst (λ (s : List ℕ). Appended (a .text) s (c .appended-byte .result)) (sym (one-digit (a .n) (omega (arith, c .before .if1 .taken)))) (c .appended-byte .ensures)
+    subst (λ (s : List ℕ). Appended (a .text) s (c .appended-byte .result)) (sym (one-digit (a .size) (omega (arith, c .before .if1 .taken)))) (c .appended-byte .ensures)
 
 before-requires : (t : ℕ) → digits-lts.Need-appended-digits-requires (byte.Asked, byte.Learnt, digits-below t, own.Post) (digits-at t) own.Post
-before-requires t c κs = (omega (arith, c .before .pre .0, c .if1 .left), omega (arith, c .before .pre .1, one-longer (c .before .args .n) (omega (arith, c .if1 .left))))
+before-requires t c κs = (omega (arith, c .before .pre .0, c .if1 .left), omega (arith, c .before .pre .1, one-longer (c .before .args .size) (omega (arith, c .if1 .left))))
 
 cast-last : (t : ℕ) → digits-lts.Need-cast-appended-byte-2 (byte.Asked, byte.Learnt, digits-below t, own.Post) (digits-at t) own.Post
 cast-last t c = record { fits = omega arith }
@@ -54,12 +54,12 @@ add-last t c = record { fits = omega arith }
 last-requires : (t : ℕ) → digits-lts.Need-appended-byte-requires-2 (byte.Asked, byte.Learnt, digits-below t, own.Post) (digits-at t) own.Post
 last-requires t c κs =
     let s = c .before .before in
-    omega (arith, s .pre .1, one-longer (s .args .n) (omega (arith, c .before .if1 .left)), appended-length (c .appended-digits .ensures))
+    omega (arith, s .pre .1, one-longer (s .args .size) (omega (arith, c .before .if1 .left)), appended-length (c .appended-digits .ensures))
 
 returns-2 : (t : ℕ) → digits-lts.Need-returns-2 (byte.Asked, byte.Learnt, digits-below t, own.Post) (digits-at t) own.Post
 returns-2 t c =
     let a = c .before .before .before .args in
-    subst (λ (s : List ℕ). Appended (a .text) s (c .appended-byte2 .result)) (sym (more-digits (a .n) (omega (arith, c .before .before .if1 .left))))
+    subst (λ (s : List ℕ). Appended (a .text) s (c .appended-byte2 .result)) (sym (more-digits (a .size) (omega (arith, c .before .before .if1 .left))))
     (appended-twice (c .before .appended-digits .ensures) (c .appended-byte2 .ensures))
 
 pub +appended-digits-spec : {M : Type 1} → statement M

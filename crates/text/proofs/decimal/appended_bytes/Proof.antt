@@ -1,4 +1,4 @@
--- `text::decimal::appended_bytes` meets its contract. The invariant: i bytes are appended.
+-- `text::decimal::appended_bytes` meets its contract. The invariant: `at` bytes are appended.
 use mathlib.Core.List.{List, [], _∷_, _++_}
 use mathlib.Core.Path.{_∙_, _≡_, ap, subst, sym}
 use Prim.Native.Nat.{_+_, _-_, _<_, _≤_, ℕ}
@@ -13,10 +13,10 @@ use Rattle.text.proofs.decimal.appended_bytes.Statement.{statement}
 use Rattle.text.proofs.decimal.appended_bytes.Tie as tie
 
 abbrev Inv-loop : tie.InvT-loop
-Inv-loop added next₀ i₀ next i = (i ≤ length added) × Appended next₀ (take i added) next
+Inv-loop added next₀ at₀ next at = (at ≤ length added) × Appended next₀ (take at added) next
 
 abbrev μ-loop : tie.MeasureT-loop
-μ-loop added next₀ i₀ next i = length added - i
+μ-loop added next₀ at₀ next at = length added - at
 
 taken-more : (s : List ℕ) (i : ℕ) → i < length s → take i s ++ (getD s i 0 ∷ []) ≡ take (i + 1) s
 taken-more s i h = sym (ap (λ (n : ℕ). take n s) (add-one i) ∙ take-suc s i 0 h)
@@ -31,10 +31,10 @@ appended-byte-requires : tie.Need-appended-byte-requires Inv-loop μ-loop
 appended-byte-requires c κs =
     let l = c .before .before in
     let added = l .before .before .args .added .now in
-    omega (arith, appended-length (l .loop .inv .1), length-take-le (l .loop .i) added (l .loop .inv .0), l .before .before .pre)
+    omega (arith, appended-length (l .loop .inv .1), length-take-le (l .loop .at) added (l .loop .inv .0), l .before .before .pre)
 
-add-i : tie.Need-add-i Inv-loop μ-loop
-add-i c = search needs
+add-at : tie.Need-add-at Inv-loop μ-loop
+add-at c = search needs
 
 loop-less : tie.Need-loop-less Inv-loop μ-loop
 loop-less c = search needs
@@ -44,7 +44,7 @@ loop-again c =
     let l = c .before .before .before in
     let added = l .before .before .args .added .now in (
       search needs,
-      subst (λ (s : List ℕ). Appended (l .before .before .args .text) s (c .appended-byte .result)) (taken-more added (l .loop .i) (c .before .before .loop-test .taken))
+      subst (λ (s : List ℕ). Appended (l .before .before .args .text) s (c .appended-byte .result)) (taken-more added (l .loop .at) (c .before .before .loop-test .taken))
           (appended-twice (l .loop .inv .1) (c .appended-byte .ensures)),
     )
 
@@ -52,7 +52,7 @@ returns : tie.Need-returns Inv-loop μ-loop
 returns c =
     let l = c .before in
     let added = l .before .before .args .added .now in
-    subst (λ (s : List ℕ). Appended (l .before .before .args .text) s (l .loop .next)) (take-all (l .loop .i) added (c .loop-test .left)) (l .loop .inv .1)
+    subst (λ (s : List ℕ). Appended (l .before .before .args .text) s (l .loop .next)) (take-all (l .loop .at) added (c .loop-test .left)) (l .loop .inv .1)
 
 pub appended-bytes-spec : {M : Type 1} → statement M
 appended-bytes-spec =
@@ -63,7 +63,7 @@ appended-bytes-spec =
     loop-holds
     shared-slice-read-appended-byte
     appended-byte-requires
-    add-i
+    add-at
     loop-less
     loop-again
     returns)

@@ -11,10 +11,10 @@ use Rattle.text.proofs.line.are_digits.Statement.{statement}
 use Rattle.text.proofs.line.are_digits.Tie as tie
 
 abbrev Inv-loop : tie.InvT-loop
-Inv-loop word i₀ i = (i ≤ length word) × (all is-digit word ≡ all is-digit (drop i word))
+Inv-loop word at₀ at = (at ≤ length word) × (all is-digit word ≡ all is-digit (drop at word))
 
 abbrev μ-loop : tie.MeasureT-loop
-μ-loop word i₀ i = length word - i
+μ-loop word at₀ at = length word - at
 
 loop-holds : tie.Need-loop-holds Inv-loop μ-loop
 loop-holds c = (omega arith, refl)
@@ -29,10 +29,10 @@ returns : tie.Need-returns Inv-loop μ-loop
 returns c =
     let l = c .before .before .before .before in
     let r = c .before .is-digit in
-    sym (l .loop .inv .1 ∙ all-fails (l .before .before .args .word .now) (l .loop .i) (c .before .before .before .loop-test .taken) is-digit (sym (r .ensures) ∙ not-true (r .result) (c .if1 .taken)))
+    sym (l .loop .inv .1 ∙ all-fails (l .before .before .args .word .now) (l .loop .at) (c .before .before .before .loop-test .taken) is-digit (sym (r .ensures) ∙ not-true (r .result) (c .if1 .taken)))
 
-add-i : tie.Need-add-i Inv-loop μ-loop
-add-i c = search needs
+add-at : tie.Need-add-at Inv-loop μ-loop
+add-at c = search needs
 
 loop-less : tie.Need-loop-less Inv-loop μ-loop
 loop-less c = search needs
@@ -41,10 +41,10 @@ loop-again : tie.Need-loop-again Inv-loop μ-loop
 loop-again c =
     let l = c .before .before .before .before in
     let r = c .before .is-digit in
-    (search needs, l .loop .inv .1 ∙ all-goes-on (l .before .before .args .word .now) (l .loop .i) (c .before .before .before .loop-test .taken) is-digit (sym (r .ensures) ∙ not-false (r .result) (c .if1 .left)))
+    (search needs, l .loop .inv .1 ∙ all-goes-on (l .before .before .args .word .now) (l .loop .at) (c .before .before .before .loop-test .taken) is-digit (sym (r .ensures) ∙ not-false (r .result) (c .if1 .left)))
 
 returns-2 : tie.Need-returns-2 Inv-loop μ-loop
-returns-2 c = sym (c .before .loop .inv .1 ∙ all-over (c .before .before .before .args .word .now) (c .before .loop .i) (c .loop-test .left) is-digit)
+returns-2 c = sym (c .before .loop .inv .1 ∙ all-over (c .before .before .before .args .word .now) (c .before .loop .at) (c .loop-test .left) is-digit)
 
 pub are-digits-spec : {M : Type 1} → statement M
 are-digits-spec =
@@ -56,7 +56,7 @@ are-digits-spec =
     shared-slice-read-is-digit
     is-digit-requires
     returns
-    add-i
+    add-at
     loop-less
     loop-again
     returns-2)

@@ -17,10 +17,10 @@ use Rattle.text.proofs.line.line_numbers.Statement.{statement}
 use Rattle.text.proofs.line.line_numbers.Tie as tie
 
 abbrev Inv-loop : tie.InvT-loop
-Inv-loop line start count values₀ at₀ k₀ values at k = Reading line start count values at k
+Inv-loop line start count values₀ at₀ found₀ values at found = Reading line start count values at found
 
 abbrev μ-loop : tie.MeasureT-loop
-μ-loop line start count values₀ at₀ k₀ values at k = count - k
+μ-loop line start count values₀ at₀ found₀ values at found = count - found
 
 abbrev loop-of : tie.After-word-length Inv-loop μ-loop → tie.At-loop Inv-loop μ-loop
 loop-of c = c .before .before .before .before
@@ -127,8 +127,8 @@ add-at c =
     let w = c .before .before .before .before .before in
     record { fits = omega (arith, end-is w, inside w) }
 
-add-k : tie.Need-add-k Inv-loop μ-loop
-add-k c = search needs
+add-found : tie.Need-add-found Inv-loop μ-loop
+add-found c = search needs
 
 loop-less : tie.Need-loop-less Inv-loop μ-loop
 loop-less c = search needs
@@ -178,7 +178,7 @@ line-numbers-spec =
     mul-values
     array-set-from-values
     add-at
-    add-k
+    add-found
     loop-less
     loop-again
     other-requires-3

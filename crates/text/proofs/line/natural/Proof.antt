@@ -37,10 +37,10 @@ module _ {word : List ℕ} {value i : ℕ} (e : is-natural word ≡ true) (p : P
   next-below = omega (arith, value-grows next (drop (i + 1) word), onward .same, natural-below word e)
 
 abbrev Inv-loop : tie.InvT-loop
-Inv-loop word value₀ i₀ value i = Partly word value i
+Inv-loop word value₀ at₀ value at = Partly word value at
 
 abbrev μ-loop : tie.MeasureT-loop
-μ-loop word value₀ i₀ value i = length word - i
+μ-loop word value₀ at₀ value at = length word - at
 
 loop-holds : tie.Need-loop-holds Inv-loop μ-loop
 loop-holds c = record { within = omega arith; digits = all-digits (c .args .word .now) (c .pre); same = refl }
@@ -60,8 +60,8 @@ cast-value c = record { fits = omega (arith, here-most (c .before .before .befor
 add-value : tie.Need-add-value Inv-loop μ-loop
 add-value c = record { fits = omega (arith, next-below (c .before .before .before .pre) (c .before .before .loop .inv) (c .before .loop-test .taken)) }
 
-add-i : tie.Need-add-i Inv-loop μ-loop
-add-i c = search needs
+add-at : tie.Need-add-at Inv-loop μ-loop
+add-at c = search needs
 
 loop-less : tie.Need-loop-less Inv-loop μ-loop
 loop-less c = search needs
@@ -70,7 +70,7 @@ loop-again : tie.Need-loop-again Inv-loop μ-loop
 loop-again c = onward (c .before .before .before .pre) (c .before .before .loop .inv) (c .before .loop-test .taken)
 
 returns : tie.Need-returns Inv-loop μ-loop
-returns c = sym (c .before .loop .inv .same ∙ value-over (c .before .before .args .word .now) (c .before .loop .i) (c .loop-test .left) (c .before .loop .value))
+returns c = sym (c .before .loop .inv .same ∙ value-over (c .before .before .args .word .now) (c .before .loop .at) (c .loop-test .left) (c .before .loop .value))
 
 pub natural-spec : {M : Type 1} → statement M
 natural-spec =
@@ -84,7 +84,7 @@ natural-spec =
     sub-value
     cast-value
     add-value
-    add-i
+    add-at
     loop-less
     loop-again
     returns)
