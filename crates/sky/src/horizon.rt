@@ -24,25 +24,25 @@ pub fn horizon_at(latitude: SineCosine, v: Vector) -> Horizon
     requires { ⌜ OneAngle latitude × Within 2_900_000_000 v ⌝ }
     ensures { λ r. ⌜ r ≡ horizon latitude v ⌝ }
 {
-    let s = latitude.sine;
-    let c = latitude.cosine;
+    let sine = latitude.sine;
+    let cosine = latitude.cosine;
     let x = v.x;
     let east = v.y;
     let z = v.z;
     Horizon {
-        up: products_added(x, c, z, s),
-        north: products_subtracted(z, c, x, s),
+        up: products_added(x, cosine, z, sine),
+        north: products_subtracted(z, cosine, x, sine),
         east,
     }
 }
 
-pub fn azimuth(h: Horizon) -> i64
-    ensures { λ r. ⌜ r ≡ azimuth h ⌝ }
+pub fn azimuth(seen: Horizon) -> i64
+    ensures { λ r. ⌜ r ≡ azimuth seen ⌝ }
 {
-    let n = h.north;
-    let e = h.east;
-    let a = arctangent(e, n).units;
-    a as i64
+    let north = seen.north;
+    let east = seen.east;
+    let angle = arctangent(east, north).units;
+    angle as i64
 }
 
 // Less a whole turn from 180 degrees up.
@@ -71,14 +71,14 @@ fn clamped(e: i64) -> i64
     }
 }
 
-pub fn elevation(h: Horizon) -> i64
-    requires { ⌜ Seen h ⌝ }
-    ensures { λ r. ⌜ r ≡ elevation h ⌝ }
+pub fn elevation(seen: Horizon) -> i64
+    requires { ⌜ Seen seen ⌝ }
+    ensures { λ r. ⌜ r ≡ elevation seen ⌝ }
 {
-    let up = h.up;
-    let n = h.north;
-    let e = h.east;
-    let level = root((n * n) as u64 + (e * e) as u64);
-    let a = arctangent(up, level as i64).units;
-    clamped(lowered(a as i64))
+    let up = seen.up;
+    let north = seen.north;
+    let east = seen.east;
+    let level = root((north * north) as u64 + (east * east) as u64);
+    let angle = arctangent(up, level as i64).units;
+    clamped(lowered(angle as i64))
 }

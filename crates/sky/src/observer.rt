@@ -28,25 +28,25 @@ pub fn observer_at(table: &[u32; 361], latitude: SineCosine, height: i64) -> Obs
     requires { ⌜ (now table ≡ sines) × OneAngle latitude × (natAbs height ≤ 9_000) ⌝ }
     ensures { λ r. ⌜ r ≡ observer latitude height ⌝ }
 {
-    let s = latitude.sine;
-    let c = latitude.cosine;
-    let y = floor_div(POLAR * s, 100_000_000);
-    let a = arctangent(y, c).units;
-    let w = sine_cosine_in(table, a as i64);
-    let ws = w.sine;
-    let wc = w.cosine;
-    let f = wc + floor_div(height * c, RADIUS);
-    let g = floor_div(POLAR * ws, 100_000_000) + floor_div(height * s, RADIUS);
+    let sine = latitude.sine;
+    let cosine = latitude.cosine;
+    let flattened = floor_div(POLAR * sine, 100_000_000);
+    let angle = arctangent(flattened, cosine).units;
+    let w = sine_cosine_in(table, angle as i64);
+    let sine_w = w.sine;
+    let cosine_w = w.cosine;
+    let f = cosine_w + floor_div(height * cosine, RADIUS);
+    let g = floor_div(POLAR * sine_w, 100_000_000) + floor_div(height * sine, RADIUS);
     Observer { f, g }
 }
 
 // The vector less the parallax p times the observer's distances.
-pub fn shifted(p: i64, o: Observer, v: Vector) -> Vector
-    requires { ⌜ (natAbs p ≤ 20_000_000) × Near o × Within 2_900_000_000 v ⌝ }
-    ensures { λ r. ⌜ r ≡ shifted p o v ⌝ }
+pub fn shifted(p: i64, observer: Observer, v: Vector) -> Vector
+    requires { ⌜ (natAbs p ≤ 20_000_000) × Near observer × Within 2_900_000_000 v ⌝ }
+    ensures { λ r. ⌜ r ≡ shifted p observer v ⌝ }
 {
-    let f = o.f;
-    let g = o.g;
+    let f = observer.f;
+    let g = observer.g;
     let x = v.x;
     let y = v.y;
     let z = v.z;

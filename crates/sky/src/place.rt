@@ -40,9 +40,9 @@ fn from_centre(table: &[u32; 361], body: Geocentric, station: Station) -> Vector
     let obliquity = station.obliquity;
     let l = sine_cosine_in(table, longitude);
     let t = sine_cosine_in(table, latitude);
-    let h = sine_cosine_in(table, sidereal);
-    let e = sine_cosine_in(table, obliquity);
-    meridian(h, equatorial(e, unit_vector(l, t)))
+    let theta = sine_cosine_in(table, sidereal);
+    let epsilon = sine_cosine_in(table, obliquity);
+    meridian(theta, equatorial(epsilon, unit_vector(l, t)))
 }
 
 // The same from where the runner stands: up, north and east.
@@ -53,20 +53,20 @@ fn from_runner(table: &[u32; 361], body: Geocentric, station: Station) -> Horizo
     let parallax = body.parallax;
     let latitude = station.latitude;
     let height = station.height;
-    let v = from_centre(table, body, station);
-    let l = sine_cosine_in(table, latitude);
-    let o = observer_at(table, l, height);
-    horizon_at(l, shifted(parallax, o, v))
+    let centre = from_centre(table, body, station);
+    let phi = sine_cosine_in(table, latitude);
+    let observer = observer_at(table, phi, height);
+    horizon_at(phi, shifted(parallax, observer, centre))
 }
 
 pub fn place_of(table: &[u32; 361], body: Geocentric, station: Station) -> Place
     requires { ⌜ (now table ≡ sines) × Viewed body station ⌝ }
     ensures { λ r. ⌜ r ≡ place-of body station ⌝ }
 {
-    let h = from_runner(table, body, station);
+    let seen = from_runner(table, body, station);
     Place {
-        azimuth: azimuth(h),
-        elevation: elevation(h),
+        azimuth: azimuth(seen),
+        elevation: elevation(seen),
     }
 }
 

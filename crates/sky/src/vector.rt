@@ -20,10 +20,10 @@ pub fn unit_vector(l: SineCosine, t: SineCosine) -> Vector
 {
     let z = t.sine;
     let flat = t.cosine;
-    let s = l.sine;
-    let c = l.cosine;
-    let x = floor_div(flat * c, 1_000_000_000);
-    let y = floor_div(flat * s, 1_000_000_000);
+    let sine = l.sine;
+    let cosine = l.cosine;
+    let x = floor_div(flat * cosine, 1_000_000_000);
+    let y = floor_div(flat * sine, 1_000_000_000);
     Vector { x, y, z }
 }
 
@@ -32,15 +32,15 @@ pub fn equatorial(obliquity: SineCosine, v: Vector) -> Vector
     requires { ⌜ OneAngle obliquity × Within 2_000_000_000 v ⌝ }
     ensures { λ r. ⌜ r ≡ equatorial obliquity v ⌝ }
 {
-    let s = obliquity.sine;
-    let c = obliquity.cosine;
+    let sine = obliquity.sine;
+    let cosine = obliquity.cosine;
     let x = v.x;
     let y = v.y;
     let z = v.z;
     Vector {
         x,
-        y: products_subtracted(y, c, z, s),
-        z: products_added(y, s, z, c),
+        y: products_subtracted(y, cosine, z, sine),
+        z: products_added(y, sine, z, cosine),
     }
 }
 
@@ -49,14 +49,14 @@ pub fn meridian(sidereal: SineCosine, v: Vector) -> Vector
     requires { ⌜ OneAngle sidereal × Within 2_000_000_000 v ⌝ }
     ensures { λ r. ⌜ r ≡ meridian sidereal v ⌝ }
 {
-    let s = sidereal.sine;
-    let c = sidereal.cosine;
+    let sine = sidereal.sine;
+    let cosine = sidereal.cosine;
     let x = v.x;
     let y = v.y;
     let z = v.z;
     Vector {
-        x: products_added(x, c, y, s),
-        y: products_subtracted(y, c, x, s),
+        x: products_added(x, cosine, y, sine),
+        y: products_subtracted(y, cosine, x, sine),
         z,
     }
 }

@@ -9,10 +9,10 @@ use Rattle.sky.proofs.horizon.azimuth.Tie as tie
 
 module _ (k : tie.After-struct-told2) where
   abbrev east : Mirror
-  east = some-gave {r = k .before .before .args .h .east} (k .struct-told2 .given .1 .1 .0 .1) refl
+  east = some-gave {r = k .before .before .args .seen .east} (k .struct-told2 .given .1 .1 .0 .1) refl
 
   abbrev north : Mirror
-  north = some-gave {r = k .before .before .args .h .north} (k .before .struct-told .given .1 .0 .1) refl
+  north = some-gave {r = k .before .before .args .seen .north} (k .before .struct-told .given .1 .0 .1) refl
 
 arctangent-requires : tie.Need-arctangent-requires
 arctangent-requires c κs = search needs

@@ -67,19 +67,19 @@ abbrev start : tie.After-struct-told3 → tie.Start
 start k = k .before .before .before
 
 mul-root : tie.Need-mul-root
-mul-root c = let a = start c in fits (n (a .args .h) (a .pre) ⊗ n (a .args .h) (a .pre)) tt
+mul-root c = let a = start c in fits (n (a .args .seen) (a .pre) ⊗ n (a .args .seen) (a .pre)) tt
 
 cast-root : tie.Need-cast-root
-cast-root c = let a = start c in square-cast (n (a .args .h) (a .pre)) tt (nn (a .args .h) (a .pre) .same)
+cast-root c = let a = start c in square-cast (n (a .args .seen) (a .pre)) tt (nn (a .args .seen) (a .pre) .same)
 
 mul-root-2 : tie.Need-mul-root-2
-mul-root-2 c = let a = start c in fits (e (a .args .h) (a .pre) ⊗ e (a .args .h) (a .pre)) tt
+mul-root-2 c = let a = start c in fits (e (a .args .seen) (a .pre) ⊗ e (a .args .seen) (a .pre)) tt
 
 cast-root-2 : tie.Need-cast-root-2
-cast-root-2 c = let a = start c in square-cast (e (a .args .h) (a .pre)) tt (ee (a .args .h) (a .pre) .same)
+cast-root-2 c = let a = start c in square-cast (e (a .args .seen) (a .pre)) tt (ee (a .args .seen) (a .pre) .same)
 
 add-root : tie.Need-add-root
-add-root c = sum-fits (start c .args .h) (start c .pre)
+add-root c = sum-fits (start c .args .seen) (start c .pre)
 
 root-requires : tie.Need-root-requires
 root-requires c κs = search needs
@@ -89,13 +89,13 @@ module _ (c : tie.After-root) where
   a = start (c .before)
 
   abbrev top : Mirror
-  top = up (a .args .h) (a .pre)
+  top = up (a .args .seen) (a .pre)
 
   abbrev distance : Mirror
-  distance = flat (a .args .h) (a .pre) (c .root .ensures)
+  distance = flat (a .args .seen) (a .pre) (c .root .ensures)
 
 cast-arctangent : tie.Need-cast-arctangent
-cast-arctangent c = flat-fits (a c .args .h) (a c .pre) (c .root .ensures)
+cast-arctangent c = flat-fits (a c .args .seen) (a c .pre) (c .root .ensures)
 
 arctangent-requires : tie.Need-arctangent-requires
 arctangent-requires c κs = search needs

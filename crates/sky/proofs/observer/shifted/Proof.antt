@@ -15,10 +15,10 @@ module _ (k : tie.After-struct-told5) where
   p = arg (a .fits .p) (a .pre .0)
 
   abbrev pf : Mirror
-  pf = p ⊗ field (a .args .o .f) (a .pre .1 .f-size) tt
+  pf = p ⊗ field (a .args .observer .f) (a .pre .1 .f-size) tt
 
   abbrev pg : Mirror
-  pg = p ⊗ field (a .args .o .g) (a .pre .1 .g-size) tt
+  pg = p ⊗ field (a .args .observer .g) (a .pre .1 .g-size) tt
 
 abbrev x : tie.After-floor-div → Mirror
 x c = x-in (a (c .before) .pre .2) tt ⊖ floor-gave (kept (pf (c .before)) tt) 1_000_000_000 (c .floor-div .ok) (c .floor-div .ensures)
