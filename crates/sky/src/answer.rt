@@ -32,10 +32,10 @@ pub enum ShownAnswer {
 fn request_refusal(start: Start, point: Point, air: Air) -> u8
     ensures { λ r. ⌜ r ≡ first (request-refusals start point air) ⌝ }
 {
-    or_else(
-        start_refusal(start),
-        or_else(point_refusal(point), air_refusal(air)),
-    )
+    let by_start = start_refusal(start);
+    let by_point = point_refusal(point);
+    let by_air = air_refusal(air);
+    or_else(by_start, or_else(by_point, by_air))
 }
 
 // Azimuth from north over east, and elevation without refraction, in 10⁻⁸ degree. The air is only judged.

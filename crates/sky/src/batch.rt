@@ -45,14 +45,14 @@ fn first_late(start: i64, offsets: &[u32]) -> usize
     requires { ⌜ natAbs start ≤ 2 ^ 60 ⌝ }
     ensures { λ r. ⌜ r ≡ first-late start (now (offsets .entry)) ⌝ }
 {
-    let mut i = 0;
-    while i < offsets.len() {
-        if is_late(start, offsets[i]) {
-            return i;
+    let mut index = 0;
+    while index < offsets.len() {
+        if is_late(start, offsets[index]) {
+            return index;
         }
-        i += 1;
+        index += 1;
     }
-    i
+    index
 }
 
 // 12, where a buffer is shorter than the list.
@@ -116,8 +116,10 @@ pub fn places_at(
     ensures { λ r. ⌜ now (azimuths .exit) ≡ left-in (answer-of r) (azimuth-at body point (instant start)) (now (offsets .entry)) (now (azimuths .entry)) ⌝ }
     ensures { λ r. ⌜ now (elevations .exit) ≡ left-in (answer-of r) (elevation-at body point (instant start)) (now (offsets .entry)) (now (elevations .entry)) ⌝ }
 {
-    let room = room_refusal(offsets.len(), azimuths.len(), elevations.len());
-    let refusal = or_else(start_refusal(start), or_else(point_refusal(point), room));
+    let by_start = start_refusal(start);
+    let by_point = point_refusal(point);
+    let by_room = room_refusal(offsets.len(), azimuths.len(), elevations.len());
+    let refusal = or_else(by_start, or_else(by_point, by_room));
     if refusal != 0 {
         return Batch::Refused(refusal);
     }

@@ -40,7 +40,7 @@ module _ (c : tie.After-is-late Inv-loop μ-loop) where
   s = c .before .before .before .before .before
 
   abbrev i : ℕ
-  i = c .before .before .before .loop .i
+  i = c .before .before .before .loop .index
 
   abbrev offsets : List ℕ
   offsets = s .args .offsets .now
@@ -54,8 +54,8 @@ returns c =
     let here = late-here (toZ w64 (ofZ w64 (s k .args .start))) (offsets k) (i k) (omega arith) (sym (k .is-late .ensures) ∙ c .if1 .taken) in
     subst (λ (z : ℤ). i k ≡ first-late z (offsets k)) (start-is k) (omega (arith, here, k .before .before .before .loop .inv .1))
 
-add-i : tie.Need-add-i Inv-loop μ-loop
-add-i c = search needs
+add-index : tie.Need-add-index Inv-loop μ-loop
+add-index c = search needs
 
 loop-less : tie.Need-loop-less Inv-loop μ-loop
 loop-less c = search needs
@@ -70,11 +70,11 @@ returns-2 : tie.Need-returns-2 Inv-loop μ-loop
 returns-2 c =
     let s = c .before .before .before in
     let start = toZ w64 (ofZ w64 (s .args .start)) in
-    let here = none-left start (s .args .offsets .now) (c .before .loop .i) (omega arith) in
-    subst (λ (z : ℤ). c .before .loop .i ≡ first-late z (s .args .offsets .now)) (toZ-ofZ w64 (s .args .start) (s .fits .start))
+    let here = none-left start (s .args .offsets .now) (c .before .loop .index) (omega arith) in
+    subst (λ (z : ℤ). c .before .loop .index ≡ first-late z (s .args .offsets .now)) (toZ-ofZ w64 (s .args .start) (s .fits .start))
     (omega (arith, here, c .before .loop .inv .1))
 
 pub first-late-spec : {M : Type 1} → statement M
 first-late-spec =
     tie.close
-    (tie.spec Inv-loop μ-loop loop-holds mul-is-late shared-slice-read-is-late is-late-requires returns add-i loop-less loop-again returns-2)
+    (tie.spec Inv-loop μ-loop loop-holds mul-is-late shared-slice-read-is-late is-late-requires returns add-index loop-less loop-again returns-2)

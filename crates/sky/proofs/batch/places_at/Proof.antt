@@ -50,13 +50,13 @@ module _ (c : tie.After-or-else2) where
 
   refusal-is : first (room-refusals (start s₁) (point s₁) (offsets s₁) (azimuths s₁) (elevations s₁)) ≡ c .or-else2 .result
   refusal-is =
-      let one = first-one (12 unless room s₁) ∙ sym (c .before .before .before .before .room-refusal .ensures) in
+      let one = first-one (12 unless room s₁) ∙ sym (c .before .before .room-refusal .ensures) in
       let rest = sym (c .before .or-else .ensures) in
-      let by-start = sym (c .before .before .before .start-refusal .ensures) in
-      let by-point = sym (c .before .before .point-refusal .ensures) in
+      let by-start = sym (c .before .before .before .before .start-refusal .ensures) in
+      let by-point = sym (c .before .before .before .point-refusal .ensures) in
       first-of (start s₁) (point s₁) (12 unless room s₁ ∷ [])
       ∙ (λ i. by-start i else (by-point i else one i))
-      ∙ ap (λ (n : ℕ). c .before .before .before .start-refusal .result else n) rest
+      ∙ ap (λ (n : ℕ). c .before .before .before .before .start-refusal .result else n) rest
       ∙ sym (c .or-else2 .ensures)
 
 -- a request that they let pass
@@ -103,14 +103,14 @@ module _ (c : tie.After-instant-of) where
             sample-reachable (start s₃) (getD (offsets s₃) i 0) (start-good (e late-in)) (all-in-time (utc (start s₃)) (offsets s₃) none-late i h);
       }
 
-room-refusal-requires : tie.Need-room-refusal-requires
-room-refusal-requires c κs = search needs
-
 start-refusal-requires : tie.Need-start-refusal-requires
 start-refusal-requires c κs = search needs
 
 point-refusal-requires : tie.Need-point-refusal-requires
 point-refusal-requires c κs = search needs
+
+room-refusal-requires : tie.Need-room-refusal-requires
+room-refusal-requires c κs = search needs
 
 or-else-requires : tie.Need-or-else-requires
 or-else-requires c κs = search needs
@@ -178,4 +178,4 @@ returns-3 c =
 pub places-at-spec : {M : Type 1} → statement M
 places-at-spec =
     tie.close
-    (tie.spec room-refusal-requires start-refusal-requires point-refusal-requires or-else-requires or-else-requires-2 returns utc-of-requires first-late-requires returns-2 table-requires instant-of-requires fill-requires same-length same-length-2 returns-3)
+    (tie.spec start-refusal-requires point-refusal-requires room-refusal-requires or-else-requires or-else-requires-2 returns utc-of-requires first-late-requires returns-2 table-requires instant-of-requires fill-requires same-length same-length-2 returns-3)
