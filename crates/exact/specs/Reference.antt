@@ -3,8 +3,11 @@ use Prim.Native.Nat.{ℕ, zero, suc, _+_, _*_, _^_}
 use Rattle.exact.specs.Fraction.{ℚ, whole, nat, _+q_, _-q_, _*q_, negq, _over_, floor}
 
 -- π = 3.14159265358979323846
+abbrev pub π-digits : ℕ
+π-digits = 314_159_265_358_979_323_846
+
 abbrev pub π : ℚ
-π = nat 314159265358979323846 over 10 ^ 20
+π = nat π-digits over 10 ^ 20
 
 -- f 0 + .. + f (n - 1)
 unfoldable pub sum : (ℕ → ℚ) → ℕ → ℚ

@@ -223,6 +223,14 @@ answered true true false x y z a f g k h = absurd (k h)
 answered true false r x y z a f g k h = absurd (g h)
 answered false q r x y z a f g k h = absurd (f h)
 
+pub first-day-is : days-from-2000 1900 1 1 ≡ negsuc 36_523
+unfolding days-from-2000 day-number days-to-year days-to-month month-length year-length leap
+first-day-is = refl
+
+pub day-after-last-is : days-from-2000 2101 1 1 ≡ pos 36_890
+unfolding days-from-2000 day-number days-to-year days-to-month month-length year-length leap
+day-after-last-is = refl
+
 pub accepted-days : (y m d : ℤ) → day-count y m d .refusal ≡ 0
     → (negsuc 36_523 ≤ℤ day-count y m d .days) × (day-count y m d .days ≤ℤ pos 36_889)
 unfolding day-count

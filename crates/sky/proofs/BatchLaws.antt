@@ -1,7 +1,7 @@
 -- The laws of a batch: the search for a late instant, the writing of a buffer, and what keeps every sample within reach.
 use mathlib.Core.Bool.{Bool, cond, false, true}
 use mathlib.Core.List.{List, [], _∷_, append-assoc, map, map-append}
-use mathlib.Core.Path.{_∙_, _≡_, refl, subst}
+use mathlib.Core.Path.{_∙_, _≡_, refl, subst, subst⁻¹}
 use Prim.Native.Nat.{_*_, _+_, _-_, _/_, _<_, _^_, _≤_, suc, zero, zero-le, ℕ}
 use native.Mathlib.Nat.{le-of-lt, le-trans, lt-of-lt-of-le}
 use native.Mathlib.Numerals.{add-one}
@@ -10,13 +10,14 @@ use lib.Dec.{leb→le}
 use lib.IntN.{_*ℤ_, _+ℤ_, natAbs, pos, ℤ}
 use lib.ListN.{drop, drop-of-length-le, getD, length, length-map, set, take}
 use lib.Seq.{drop-cons, length-take-le, set-at, take-all, take-suc}
-use lib.Signed.{_≤ℤ_, ltZ-no, mag}
+use lib.Signed.{_<ℤ_, _≤ℤ_, ltZ-no, mag}
 use mir.Syntax.{w64}
 use mir.Val.{ofZ, toZ}
 use mir.ValLaws.{toZ-ofZ}
 use Rattle.arithmetic.proofs.Difference.{#_, _⊞_, _⊠_, by-le, by-lt, to-le, ⟨_⟩}
 use Rattle.arithmetic.proofs.Integers.{solveℤ}
 use Rattle.arithmetic.proofs.Solver.{_:+_, _:-_, x0, x1, x2, x3, x4, x5}
+use Rattle.numbers.proofs.CalendarLaws.{day-after-last-is}
 use Rattle.numbers.proofs.Machine.{not-holds}
 use Rattle.numbers.specs.Calendar.{day-count, day-number, days-from-2000, days-to-month, days-to-year, leap, month-length, year-length}
 use Rattle.sky.proofs.RequestLaws.{accepted}
@@ -118,7 +119,9 @@ sample-accepted s offset e in-time =
     record {
       not-early = start .not-early;
       from-midnight = by-le (# 0) (⟨ elapsed s ⟩ ⊞ # offset) (omega (arith, after));
-      not-late = by-lt (# day ⊠ ⟨ date s .days ⟩ ⊞ (⟨ elapsed s ⟩ ⊞ # offset)) (# (36_890 * day)) (omega (arith, late));
+      not-late =
+          subst⁻¹ (λ (z : ℤ). (pos day *ℤ date s .days +ℤ (elapsed s +ℤ pos offset)) <ℤ (pos day *ℤ z)) day-after-last-is
+          (by-lt (# day ⊠ ⟨ date s .days ⟩ ⊞ (⟨ elapsed s ⟩ ⊞ # offset)) (# day ⊠ # 36_890) (omega (arith, late)));
       ut1-small = start .ut1-small;
       delta-small = start .delta-small;
     }

@@ -6,7 +6,7 @@ use Prim.Native.Nat.{_*_, _-_, _≤_, suc, ℕ}
 use native.Mathlib.Nat.{le-refl}
 use native.Mathlib.Omega.{arith}
 use lib.Dec.{T, eqb, lit≤}
-use lib.IntN.{natAbs, negsuc, pos, ℤ}
+use lib.IntN.{_*ℤ_, _+ℤ_, natAbs, negsuc, pos, ℤ}
 use lib.ListN.{drop}
 use lib.Signed.{_<ℤ_, _≤ℤ_, leZ, leZ-yes}
 use borrow.Author.Tests.{eqb-false, eqb-true}
@@ -15,7 +15,7 @@ use mir.Syntax.{w64}
 use mir.Val.{SFits, ofZ, toZ}
 use mir.ValLaws.{toZ-ofZ}
 use Rattle.arithmetic.proofs.Difference.{#_, _⊞_, _⊠_, by-le, by-lt, to-le, to-lt, ⊟_, ⟨_⟩}
-use Rattle.numbers.proofs.CalendarLaws.{accepted-days}
+use Rattle.numbers.proofs.CalendarLaws.{accepted-days, day-after-last-is, first-day-is}
 use Rattle.sky.specs.Refusal.{_else_, _unless_, between, first}
 use Rattle.sky.specs.Request.{date, delta-limit, elapsed, instant, is-clock, point-refusals, start-refusals, ut1-limit}
 use Rattle.sky.specs.SkyRange.{OnEarth, Reachable}
@@ -130,9 +130,11 @@ module _ (s : Start) (e : first (start-refusals s) ≡ 0) where
       let last = to-le ⟨ date s .days ⟩ (# 36_889) (days .1) in
       let before = to-lt ⟨ elapsed s ⟩ (# day) (within .1) in
       record {
-        not-early = days .0;
+        not-early = subst⁻¹ (λ (z : ℤ). z ≤ℤ date s .days) first-day-is (days .0);
         from-midnight = within .0;
-        not-late = by-lt (# day ⊠ ⟨ date s .days ⟩ ⊞ ⟨ elapsed s ⟩) (# (36_890 * day)) (omega (arith, last, before));
+        not-late =
+            subst⁻¹ (λ (z : ℤ). (pos day *ℤ date s .days +ℤ elapsed s) <ℤ (pos day *ℤ z)) day-after-last-is
+            (by-lt (# day ⊠ ⟨ date s .days ⟩ ⊞ ⟨ elapsed s ⟩) (# day ⊠ # 36_890) (omega (arith, last, before)));
         ut1-small =
             let size = between-size ut1-limit ut1-limit (s .ut1) (le-refl ut1-limit) (passes 4 (between (minus ut1-limit) (s .ut1) (pos ut1-limit)) (by-ut1 .0)) in
             omega arith;

@@ -6,11 +6,12 @@ use native.Mathlib.Nat.{le-refl, le-trans}
 use native.Mathlib.Omega.{arith}
 use lib.Dec.{leb→le}
 use lib.IntN.{_*ℤ_, _+ℤ_, _-ℤ_, natAbs, negsuc, negℤ, pos, ℤ}
-use lib.Signed.{_≤ℤ_}
+use lib.Signed.{_<ℤ_, _≤ℤ_}
 use Rattle.arithmetic.proofs.Difference.{#_, _⊞_, _⊠_, by-le, to-le, to-lt, ⊟_, ⟨_⟩}
 use Rattle.arithmetic.proofs.Integers.{solveℤ}
 use Rattle.arithmetic.proofs.Sizes.{add-bound, sub-bound}
 use Rattle.arithmetic.proofs.Solver.{_:+_, _:-_, x0, x1, x2, x3}
+use Rattle.numbers.proofs.CalendarLaws.{day-after-last-is, first-day-is}
 use Rattle.sums.specs.Accuracy.{MoonNear, SunNear}
 use Rattle.sums.specs.Instant.{Accepted, day, furthest, second, terrestrial-time, universal-time}
 use Rattle.sums.proofs.Accurate.{moon-near, sun-near}
@@ -21,28 +22,34 @@ size-between (pos n) m h l = omega (arith, to-le (# n) (# m) l)
 size-between (negsuc n) m h l = omega (arith, to-le (⊟ (# m)) ⟨ negsuc n ⟩ h)
 
 module _ {d elapsed ut1 delta : ℤ} (a : Accepted d elapsed ut1 delta) where
+  earliest : negsuc 36_523 ≤ℤ d
+  earliest = subst (λ (z : ℤ). z ≤ℤ d) first-day-is (a .not-early)
+
+  latest : (pos day *ℤ d +ℤ elapsed) <ℤ (pos day *ℤ pos 36_890)
+  latest = subst (λ (z : ℤ). (pos day *ℤ d +ℤ elapsed) <ℤ (pos day *ℤ z)) day-after-last-is (a .not-late)
+
   pub clock-small : natAbs (pos day *ℤ d +ℤ elapsed) ≤ 36_890 * day
   clock-small =
-      let early = to-le ⟨ negsuc 36_523 ⟩ ⟨ d ⟩ (a .not-early) in
+      let early = to-le ⟨ negsuc 36_523 ⟩ ⟨ d ⟩ earliest in
       let after = to-le (# 0) ⟨ elapsed ⟩ (a .from-midnight) in
-      let late = to-lt (# day ⊠ ⟨ d ⟩ ⊞ ⟨ elapsed ⟩) (# (36_890 * day)) (a .not-late) in
+      let late = to-lt (# day ⊠ ⟨ d ⟩ ⊞ ⟨ elapsed ⟩) (# day ⊠ # 36_890) latest in
       size-between (pos day *ℤ d +ℤ elapsed) (36_890 * day)
       (by-le (⊟ (# (36_890 * day))) (# day ⊠ ⟨ d ⟩ ⊞ ⟨ elapsed ⟩) (omega (arith, early, after)))
       (by-le (# day ⊠ ⟨ d ⟩ ⊞ ⟨ elapsed ⟩) (# (36_890 * day)) (omega (arith, late)))
 
   pub days-small : natAbs d ≤ 2 ^ 17
   days-small =
-      let early = to-le ⟨ negsuc 36_523 ⟩ ⟨ d ⟩ (a .not-early) in
+      let early = to-le ⟨ negsuc 36_523 ⟩ ⟨ d ⟩ earliest in
       let after = to-le (# 0) ⟨ elapsed ⟩ (a .from-midnight) in
-      let late = to-lt (# day ⊠ ⟨ d ⟩ ⊞ ⟨ elapsed ⟩) (# (36_890 * day)) (a .not-late) in
+      let late = to-lt (# day ⊠ ⟨ d ⟩ ⊞ ⟨ elapsed ⟩) (# day ⊠ # 36_890) latest in
       size-between d (2 ^ 17) (by-le (⊟ (# (2 ^ 17))) ⟨ d ⟩ (omega (arith, early))) (by-le ⟨ d ⟩ (# (2 ^ 17)) (omega (arith, after, late)))
 
-  pub elapsed-small : natAbs elapsed ≤ 2 ^ 42
+  pub elapsed-small : natAbs elapsed ≤ 2 ^ 43
   elapsed-small =
-      let early = to-le ⟨ negsuc 36_523 ⟩ ⟨ d ⟩ (a .not-early) in
+      let early = to-le ⟨ negsuc 36_523 ⟩ ⟨ d ⟩ earliest in
       let after = to-le (# 0) ⟨ elapsed ⟩ (a .from-midnight) in
-      let late = to-lt (# day ⊠ ⟨ d ⟩ ⊞ ⟨ elapsed ⟩) (# (36_890 * day)) (a .not-late) in
-      size-between elapsed (2 ^ 42) (by-le (⊟ (# (2 ^ 42))) ⟨ elapsed ⟩ (omega (arith, after))) (by-le ⟨ elapsed ⟩ (# (2 ^ 42)) (omega (arith, early, late)))
+      let late = to-lt (# day ⊠ ⟨ d ⟩ ⊞ ⟨ elapsed ⟩) (# day ⊠ # 36_890) latest in
+      size-between elapsed (2 ^ 43) (by-le (⊟ (# (2 ^ 43))) ⟨ elapsed ⟩ (omega (arith, after))) (by-le ⟨ elapsed ⟩ (# (2 ^ 43)) (omega (arith, early, late)))
 
   pub ut1-most : natAbs ut1 ≤ second
   ut1-most = omega (arith, a .ut1-small)

@@ -2,7 +2,7 @@
 use mathlib.Core.List.{[], _∷_}
 use mathlib.Core.Path.{_∙_, _≡_, ap, refl, subst, subst₂, sym}
 use mathlib.Core.Quot.{Quot·sound}
-use Prim.Native.Nat.{_*_, _-_, _/_, _<_, _≤_, suc, zero, ℕ}
+use Prim.Native.Nat.{_*_, _-_, _/_, _<_, _^_, _≤_, suc, zero, ℕ}
 use native.Mathlib.Nat.{zero-lt-suc}
 use native.Mathlib.Omega.{arith}
 use lib.IntN.{_+ℤ_, pos, ℤ}
@@ -11,7 +11,7 @@ use Rattle.arithmetic.proofs.FloorLaws.{modulo-below}
 use Rattle.arithmetic.proofs.Integers.{solveℤ}
 use Rattle.arithmetic.proofs.Solver.{_:*_, _:+_, _:-_, k0, k1, neg′, x0, x1, x2, x3, x4, x5, x6, x7, x8, x9}
 use Rattle.exact.specs.Fraction.{Within, _*q_, _+q_, _-q_, _over_, _≤q_, floor, inv, nat, negq, nn, whole, ℚ}
-use Rattle.exact.specs.Reference.{cos°, factorial, power, sign, sum}
+use Rattle.exact.specs.Reference.{cos°, factorial, power, sign, sum, π-digits}
 use Rattle.exact.proofs.Floors.{in-within, nat-le, whole-split}
 use Rattle.exact.proofs.FractionLaws.{inv-mul, linq, solveq, whole-add}
 use Rattle.exact.proofs.Order.{leby, nn-int, nn-inv, within-add, within-le, within-mul, within-neg, within-self}
@@ -30,7 +30,7 @@ use Rattle.sums.specs.Sun as Sun
 -- ---- closed numbers
 -- degrees in a radian, exactly and by the rule; a turn by the rule, in 10⁻⁸ radian
 abbrev exact-rate : ℚ
-exact-rate = nat 18_000_000_000_000_000_000_000 over 314_159_265_358_979_323_846
+exact-rate = nat (180 * 10 ^ 20) over π-digits
 
 abbrev rate : ℚ
 rate = nat 5_729_577_951 over 100_000_000

@@ -1,9 +1,9 @@
 -- The exact sums (01, "Exact sums"), as exact fractions: nothing outside the reference's sine and cosine is floored, reduced or rounded.
 use mathlib.Core.List.{List, [], _∷_}
-use Prim.Native.Nat.{ℕ, zero, suc}
+use Prim.Native.Nat.{ℕ, zero, suc, _*_, _^_}
 use lib.IntN.{ℤ, pos, natAbs}
 use Rattle.exact.specs.Fraction.{ℚ, whole, nat, _+q_, _-q_, _*q_, _over_}
-use Rattle.exact.specs.Reference.{π, power, sin°, cos°}
+use Rattle.exact.specs.Reference.{π-digits, power, sin°, cos°}
 use Rattle.sums.specs.Instant.{century, millennium, minus}
 use Rattle.sums.specs.Table.{column}
 use Rattle.sums.specs.MoonTerms as Of
@@ -75,7 +75,7 @@ moon-metres T = nat 385_000_560 +q totalq (cosine-term T) longitude-distance-ter
 
 -- THE SUN at τ. Radians times 180 / π
 abbrev pub in-degrees : ℚ → ℚ
-in-degrees x = x *q (nat 18_000_000_000_000_000_000_000 over 314_159_265_358_979_323_846)
+in-degrees x = x *q (nat (180 * 10 ^ 20) over π-digits)
 
 -- a row is A cosine(B + C τ), the angle in radians
 abbrev pub ray-angle : ℚ → ℕ → ℕ → ℚ

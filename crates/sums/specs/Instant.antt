@@ -5,6 +5,7 @@ use lib.IntN.{ℤ, pos, negsuc, negℤ, natAbs, _+ℤ_, _*ℤ_, _-ℤ_}
 use lib.Signed.{_≤ℤ_, _<ℤ_}
 use Rattle.arithmetic.specs.Floor.{⌊_÷_⌋}
 use Rattle.numbers.specs.Angle.{reduced}
+use Rattle.numbers.specs.Calendar.{days-from-2000}
 use Rattle.sums.specs.declared.instant.Polynomial.{Polynomial}
 use Rattle.sums.specs.declared.instant.Powers.{Powers}
 
@@ -30,12 +31,19 @@ universal-time d elapsed ut1 = pos day *ℤ d -ℤ pos (day / 2) +ℤ elapsed +�
 abbrev pub terrestrial-time : ℤ → ℤ → ℤ
 terrestrial-time ut delta = ut +ℤ delta
 
+-- 1900-01-01, and the day after 2100-12-31
+abbrev pub first-day : ℤ
+first-day = days-from-2000 1900 1 1
+
+abbrev pub day-after-last : ℤ
+day-after-last = days-from-2000 2101 1 1
+
 -- an accepted instant: a day from 1900-01-01 to 2100-12-31 (1 to 3), a time of the day (4), UT1 minus UTC of at most 0.9 s (5) and delta-T of at most
 -- 8,000 s (6) either way; with the offset of a batch it is not after the last instant of 2100 (13)
 pub record Accepted (d elapsed ut1 delta : ℤ) : Type 0 where
-  pub not-early : negsuc 36_523 ≤ℤ d
+  pub not-early : first-day ≤ℤ d
   pub from-midnight : pos 0 ≤ℤ elapsed
-  pub not-late : (pos day *ℤ d +ℤ elapsed) <ℤ pos (36_890 * day)
+  pub not-late : (pos day *ℤ d +ℤ elapsed) <ℤ (pos day *ℤ day-after-last)
   pub ut1-small : 10 * natAbs ut1 ≤ 9 * second
   pub delta-small : natAbs delta ≤ 8_000 * second
 

@@ -48,7 +48,7 @@ pub struct Instant {
 
 // UT of the days from 2000-01-01, the units of the day, and UT1 minus UTC.
 pub fn universal_time(days: i64, elapsed: i64, ut1: i64) -> i64
-    requires { ⌜ (natAbs days ≤ 2 ^ 17) × ((natAbs elapsed ≤ 2 ^ 42) × (natAbs ut1 ≤ 2 ^ 42)) ⌝ }
+    requires { ⌜ (natAbs days ≤ 2 ^ 17) × ((natAbs elapsed ≤ 2 ^ 43) × (natAbs ut1 ≤ 2 ^ 42)) ⌝ }
     ensures { λ r. ⌜ r ≡ universal-time days elapsed ut1 ⌝ }
 {
     DAY as i64 * days - (DAY / 2) as i64 + elapsed + ut1
