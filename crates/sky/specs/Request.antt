@@ -1,6 +1,6 @@
 -- A request and its numbered refusals (01, the section of that name): 1 to 9, and the instant of a start.
 use mathlib.Core.Bool.{Bool, _&&_}
-use mathlib.Core.List.{List, [], _++_, _∷_}
+use mathlib.Core.List.{List, [], _∷_}
 use Prim.Native.Nat.{_*_, _-_, _/_, ℕ}
 use lib.IntN.{_*ℤ_, _+ℤ_, pos, ℤ}
 use Rattle.numbers.specs.Calendar.{DayAnswer, day-count}

@@ -9,8 +9,6 @@ use sums::sun::latitude_degrees;
 use sums::sun::longitude_degrees;
 use sums::sun::sun_at;
 ghost use mathlib.Core.Path.{_≡_};
-ghost use Prim.Native.Nat.{_≤_, _^_};
-ghost use lib.IntN.{natAbs};
 ghost use Rattle.numbers.specs.SineTable.{sines};
 ghost use Rattle.sums.specs.Instant.{Reached};
 ghost use Rattle.sums.specs.Nutation.{Δψ};

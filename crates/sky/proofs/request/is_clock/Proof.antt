@@ -6,7 +6,6 @@ use borrow.Author.Needs.{needs}
 use borrow.Author.Tests.{not-false, not-true}
 use mir.Syntax.{w64}
 use mir.Val.{SFits}
-use Rattle.numbers.proofs.QuarterSine.{unit}
 use Rattle.sky.proofs.RequestLaws.{tested}
 use Rattle.sky.specs.Refusal.{between}
 use Rattle.sky.specs.Request.{is-clock}
