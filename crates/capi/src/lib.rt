@@ -1,5 +1,10 @@
 // The functions that C and Rust call, each a few lines over the library.
+pub mod batches;
+pub mod codes;
+pub mod headings;
 pub mod instants;
+pub mod places;
+pub mod refractions;
 
 use numbers::calendar::DayCount;
 ghost use mathlib.Core.Path.{_≡_};

@@ -12,6 +12,7 @@ ghost use Rattle.sky.specs.Refusal.{first, between, _else_};
 ghost use Rattle.sky.specs.Request.{date, is-clock, start-refusals, point-refusals, elapsed, utc, instant};
 
 // UTC in the Gregorian calendar, UT1 minus UTC, and delta-T. The last three count units of time (SECOND to a second).
+#[repr(C)]
 pub struct Start {
     pub year: i64,
     pub month: i64,
@@ -30,6 +31,7 @@ pub enum Body {
 }
 
 // Longitude east-positive and latitude in 10⁻⁷ degree, height in metres.
+#[repr(C)]
 pub struct Point {
     pub longitude: i64,
     pub latitude: i64,

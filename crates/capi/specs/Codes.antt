@@ -1,0 +1,49 @@
+-- The codes of a body and of an air, and the refusals outside 01's numbers: no request can be formed, so they are given before all others.
+use mathlib.Core.Bool.{cond}
+use Prim.Native.Nat.{ℕ}
+use lib.Dec.{eqb, leb}
+use lib.IntN.{pos, ℤ}
+use Rattle.numbers.specs.Angle.{quarter-turn}
+use Rattle.sums.specs.Instant.{minus}
+use Rattle.sky.specs.Refusal.{_else_, _unless_, between}
+use Rattle.sky.specs.declared.air.Air.{Air}
+use Rattle.sky.specs.declared.air.Air.the-variants.{Measured, None, Standard}
+use Rattle.sky.specs.declared.request.Body.{Body}
+use Rattle.sky.specs.declared.request.Body.the-variants.{Moon, Sun}
+use Rattle.capi.specs.declared.codes.GivenAir.{GivenAir}
+
+abbrev pub unknown-body : ℕ
+unknown-body = 101
+
+abbrev pub unknown-air : ℕ
+unknown-air = 102
+
+abbrev pub no-elevation : ℕ
+no-elevation = 103
+
+-- 0 Sun, 1 Moon
+abbrev pub last-body : ℕ
+last-body = 1
+
+abbrev pub body-of : ℕ → Body
+body-of code = cond (eqb code 0) Sun Moon
+
+abbrev pub body-refusal : ℕ → ℕ
+body-refusal code = unknown-body unless leb code last-body
+
+-- 0 none, 1 standard, 2 measured
+abbrev pub last-air : ℕ
+last-air = 2
+
+abbrev pub air-of : GivenAir → Air
+air-of air = cond (eqb (air .kind) 0) None (cond (eqb (air .kind) 1) Standard (Measured (air .pressure) (air .temperature)))
+
+abbrev pub kind-refusal : GivenAir → ℕ
+kind-refusal air = unknown-air unless leb (air .kind) last-air
+
+abbrev pub code-refusal : ℕ → GivenAir → ℕ
+code-refusal body air = body-refusal body else kind-refusal air
+
+-- within ±90 degrees
+abbrev pub elevation-refusal : ℤ → ℕ
+elevation-refusal e = no-elevation unless between (minus quarter-turn) e (pos quarter-turn)
