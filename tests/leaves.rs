@@ -2,20 +2,8 @@
 use std::env;
 use std::fs;
 
-#[repr(C)]
-#[derive(Debug, PartialEq)]
-struct CalendarDay {
-    refusal: u8,
-    days: i64,
-}
-
-extern "C" {
-    fn raddlehue_day_count(year: i64, month: i64, day: i64) -> CalendarDay;
-    fn raddlehue_sine(x: i64) -> i64;
-    fn raddlehue_cosine(x: i64) -> i64;
-    fn raddlehue_arctangent(y: i64, x: i64) -> u64;
-    fn raddlehue_root(x: u64) -> u64;
-}
+mod archive;
+use archive::{raddlehue_arctangent, raddlehue_cosine, raddlehue_day_count, raddlehue_root, raddlehue_sine, CalendarDay};
 
 fn numbers(text: &str) -> Vec<i64> {
     text.split_whitespace().map(|word| word.parse().unwrap()).collect()
