@@ -24,19 +24,19 @@ fn batch_numbers(batch: Batch) -> BatchNumbers
     ensures { λ r. ⌜ batch-answer r ≡ answer-of batch ⌝ }
 {
     match batch {
-        Batch::Done(count) => BatchNumbers {
+        Batch::Done(n) => BatchNumbers {
             refusal: 0,
             index: 0,
-            count,
+            count: n,
         },
-        Batch::Refused(refusal) => BatchNumbers {
-            refusal,
+        Batch::Refused(n) => BatchNumbers {
+            refusal: n,
             index: 0,
             count: 0,
         },
-        Batch::Late(index) => BatchNumbers {
+        Batch::Late(i) => BatchNumbers {
             refusal: 13,
-            index,
+            index: i,
             count: 0,
         },
     }

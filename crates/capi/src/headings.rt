@@ -21,8 +21,8 @@ pub extern "C" fn raddlehue_middle(a: i64, b: i64) -> MiddleNumbers
             refusal: 0,
             azimuth,
         },
-        Middle::Refused(refusal) => MiddleNumbers {
-            refusal,
+        Middle::Refused(n) => MiddleNumbers {
+            refusal: n,
             azimuth: 0,
         },
     }

@@ -39,8 +39,8 @@ fn place_numbers(answer: PlaceAnswer) -> PlaceNumbers
             azimuth: place.azimuth,
             elevation: place.elevation,
         },
-        PlaceAnswer::Refused(refusal) => PlaceNumbers {
-            refusal,
+        PlaceAnswer::Refused(n) => PlaceNumbers {
+            refusal: n,
             azimuth: 0,
             elevation: 0,
         },
@@ -51,14 +51,14 @@ fn shown_numbers(answer: ShownAnswer) -> ShownNumbers
     ensures { λ r. ⌜ r ≡ shown-numbers (shown-answer answer) ⌝ }
 {
     match answer {
-        ShownAnswer::Seen(place) => ShownNumbers {
+        ShownAnswer::Seen(shown) => ShownNumbers {
             refusal: 0,
-            azimuth: place.azimuth,
-            elevation: place.elevation,
-            refraction: place.refraction,
+            azimuth: shown.azimuth,
+            elevation: shown.elevation,
+            refraction: shown.refraction,
         },
-        ShownAnswer::Refused(refusal) => ShownNumbers {
-            refusal,
+        ShownAnswer::Refused(n) => ShownNumbers {
+            refusal: n,
             azimuth: 0.0,
             elevation: 0.0,
             refraction: 0.0,

@@ -18,16 +18,16 @@ middle-azimuth-requires c κs = search needs
 enum-known-azimuth : tie.Need-enum-known-azimuth
 enum-known-azimuth c = search needs
 
-enum-known-refusal : tie.Need-enum-known-refusal
-enum-known-refusal c = search needs
+enum-known-n : tie.Need-enum-known-n
+enum-known-n c = search needs
 
 returns : tie.Need-returns
 returns c = sym (ap (λ (m : Middle). middle-numbers (answer-of m)) (c .before .azimuth .given .1)) ∙ ap middle-numbers (answer-is (c .before .before .before))
 
 returns-2 : tie.Need-returns-2
-returns-2 c = sym (ap (λ (m : Middle). middle-numbers (answer-of m)) (c .before .refusal .given .1)) ∙ ap middle-numbers (answer-is (c .before .before .before))
+returns-2 c = sym (ap (λ (m : Middle). middle-numbers (answer-of m)) (c .before .n .given .1)) ∙ ap middle-numbers (answer-is (c .before .before .before))
 
 pub raddlehue-middle-spec : {M : Type 1} → statement M
 raddlehue-middle-spec =
     tie.close
-    (tie.spec middle-azimuth-requires enum-known-azimuth enum-known-refusal returns returns-2)
+    (tie.spec middle-azimuth-requires enum-known-azimuth enum-known-n returns returns-2)
