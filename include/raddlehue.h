@@ -108,7 +108,7 @@ raddlehue_batch_t raddlehue_batch(
 /* An azimuth from north over east, 0 to 35,999,999,999, in units of 1e-8 degree. */
 typedef struct {
     uint8_t refusal;
-    uint64_t azimuth;
+    int64_t azimuth;
 } raddlehue_middle_t;
 
 /* Two azimuths from north over east, in units of 1e-8 degree; the answer lies half way between them, the short way round. */

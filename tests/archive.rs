@@ -101,7 +101,7 @@ pub struct BatchNumbers {
 #[derive(Clone, Copy, Debug, PartialEq)]
 pub struct MiddleNumbers {
     pub refusal: u8,
-    pub azimuth: u64,
+    pub azimuth: i64,
 }
 
 #[repr(C)]

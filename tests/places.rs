@@ -79,7 +79,7 @@ fn batch(n: &[i64], body: u32, offsets: &[u32], azimuths: &mut [i64], elevations
     }
 }
 
-fn middle(a: i64, b: i64) -> (u8, u64) {
+fn middle(a: i64, b: i64) -> (u8, i64) {
     let middle = unsafe { raddlehue_middle(a, b) };
     (middle.refusal, middle.azimuth)
 }
@@ -142,7 +142,7 @@ fn check_batch(input: &str, expected: &str) {
 
 fn check_middle(input: &str, expected: &str) {
     let (ends, wanted) = (numbers(input), numbers(expected));
-    assert_eq!(middle(ends[0], ends[1]), (wanted[0] as u8, wanted[1] as u64), "{input}");
+    assert_eq!(middle(ends[0], ends[1]), (wanted[0] as u8, wanted[1]), "{input}");
 }
 
 fn check_refraction(input: &str, expected: &str) {

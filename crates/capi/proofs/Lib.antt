@@ -1,1 +1,2 @@
+pub mod MiddleSize
 pub mod Within

@@ -21,26 +21,36 @@ unknown-air = 102
 abbrev pub no-elevation : ℕ
 no-elevation = 103
 
--- 0 Sun, 1 Moon
-abbrev pub last-body : ℕ
-last-body = 1
+-- the codes of a body
+abbrev pub sun : ℕ
+sun = 0
+
+abbrev pub moon : ℕ
+moon = 1
 
 abbrev pub body-of : ℕ → Body
-body-of code = cond (eqb code 0) Sun Moon
+body-of code = cond (eqb code sun) Sun Moon
 
 abbrev pub body-refusal : ℕ → ℕ
-body-refusal code = unknown-body unless leb code last-body
+body-refusal code = unknown-body unless leb code moon
 
--- 0 none, 1 standard, 2 measured
-abbrev pub last-air : ℕ
-last-air = 2
+-- the kinds of an air
+abbrev pub none : ℕ
+none = 0
+
+abbrev pub standard : ℕ
+standard = 1
+
+abbrev pub measured : ℕ
+measured = 2
 
 abbrev pub air-of : GivenAir → Air
-air-of air = cond (eqb (air .kind) 0) None (cond (eqb (air .kind) 1) Standard (Measured (air .pressure) (air .temperature)))
+air-of air = cond (eqb (air .kind) none) None (cond (eqb (air .kind) standard) Standard (Measured (air .pressure) (air .temperature)))
 
 abbrev pub kind-refusal : GivenAir → ℕ
-kind-refusal air = unknown-air unless leb (air .kind) last-air
+kind-refusal air = unknown-air unless leb (air .kind) measured
 
+-- the body is judged first
 abbrev pub code-refusal : ℕ → GivenAir → ℕ
 code-refusal body air = body-refusal body else kind-refusal air
 

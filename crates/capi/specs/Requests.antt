@@ -3,12 +3,12 @@ use mathlib.Core.Bool.{cond}
 use mathlib.Core.List.{List, _∷_}
 use Prim.Native.Nat.{ℕ}
 use lib.Dec.{eqb}
-use lib.IntN.{ℤ}
+use lib.IntN.{pos, ℤ}
 use Rattle.sky.specs.Air.{air-refusals}
 use Rattle.sky.specs.Answer.{Answer, nowhere, place, shown-place}
 use Rattle.sky.specs.Batch.{BatchAnswer, batch}
 use Rattle.sky.specs.Double.{zero-degrees}
-use Rattle.sky.specs.Heading.{MiddleAnswer, middle}
+use Rattle.sky.specs.Heading.{MiddleAnswer}
 use Rattle.sky.specs.Refraction.{refraction}
 use Rattle.sky.specs.Refusal.{first}
 use Rattle.sky.specs.Shown.{nothing-shown}
@@ -35,7 +35,7 @@ abbrev pub batch-answer : BatchNumbers → BatchAnswer
 batch-answer n = record { refusal = n .refusal; index = n .index; count = n .count }
 
 abbrev pub middle-numbers : MiddleAnswer → MiddleNumbers
-middle-numbers a = record { refusal = a .refusal; azimuth = a .azimuth }
+middle-numbers a = record { refusal = a .refusal; azimuth = pos (a .azimuth) }
 
 -- the refusal of a code, with zeros, or the answer to the request
 abbrev pub formed : {A : Type 0} → ℕ → A → Answer A → Answer A

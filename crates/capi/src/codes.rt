@@ -12,7 +12,19 @@ pub const UNKNOWN_AIR: u8 = 102;
 
 pub const NO_ELEVATION: u8 = 103;
 
-// The kind is 0 none, 1 standard, 2 measured. Only a measured air has its pressure in mbar and its temperature in °C read.
+// The codes of a body.
+const SUN: u32 = 0;
+
+const MOON: u32 = 1;
+
+// The kinds of an air.
+const NONE: u32 = 0;
+
+const STANDARD: u32 = 1;
+
+const MEASURED: u32 = 2;
+
+// Pressure in mbar and temperature in °C, both read only where the kind is measured.
 #[repr(C)]
 pub struct GivenAir {
     pub kind: u32,
@@ -20,25 +32,24 @@ pub struct GivenAir {
     pub temperature: f64,
 }
 
-// 0 Sun, 1 Moon.
 pub fn body_of(code: u32) -> Body
     ensures { λ r. ⌜ r ≡ body-of code ⌝ }
 {
-    if code == 0 { Body::Sun } else { Body::Moon }
+    if code == SUN { Body::Sun } else { Body::Moon }
 }
 
 pub fn body_refusal(code: u32) -> u8
     ensures { λ r. ⌜ r ≡ body-refusal code ⌝ }
 {
-    if code <= 1 { 0 } else { UNKNOWN_BODY }
+    if code <= MOON { 0 } else { UNKNOWN_BODY }
 }
 
 pub fn air_of(air: GivenAir) -> Air
     ensures { λ r. ⌜ r ≡ air-of air ⌝ }
 {
-    if air.kind == 0 {
+    if air.kind == NONE {
         Air::None
-    } else if air.kind == 1 {
+    } else if air.kind == STANDARD {
         Air::Standard
     } else {
         Air::Measured(air.pressure, air.temperature)
@@ -48,7 +59,7 @@ pub fn air_of(air: GivenAir) -> Air
 pub fn kind_refusal(air: GivenAir) -> u8
     ensures { λ r. ⌜ r ≡ kind-refusal air ⌝ }
 {
-    if air.kind <= 2 { 0 } else { UNKNOWN_AIR }
+    if air.kind <= MEASURED { 0 } else { UNKNOWN_AIR }
 }
 
 // The body is judged first.

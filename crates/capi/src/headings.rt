@@ -9,7 +9,7 @@ ghost use Rattle.capi.specs.Requests.{middle-numbers};
 #[repr(C)]
 pub struct MiddleNumbers {
     pub refusal: u8,
-    pub azimuth: u64,
+    pub azimuth: i64,
 }
 
 #[no_mangle]
@@ -19,7 +19,7 @@ pub extern "C" fn raddlehue_middle(a: i64, b: i64) -> MiddleNumbers
     match middle_azimuth(a, b) {
         Middle::Azimuth(azimuth) => MiddleNumbers {
             refusal: 0,
-            azimuth,
+            azimuth: azimuth as i64,
         },
         Middle::Refused(n) => MiddleNumbers {
             refusal: n,

@@ -1,11 +1,32 @@
 -- `capi::batches::raddlehue_batch` meets its contract.
-use mathlib.Core.Path.{_∙_, ap, sym}
+use mathlib.Core.Bool.{true}
+use mathlib.Core.Path.{_∙_, _≡_, ap, sym}
+use lib.Dec.{eqb}
 use borrow.Author.Needs.{needs}
 use borrow.Author.Tests.{eq-eqb, ne-eqb}
-use Rattle.sky.specs.Batch.{BatchAnswer, azimuth-at, elevation-at, left-in}
+use Rattle.sky.specs.Batch.{BatchAnswer, answer-of, azimuth-at, elevation-at, left-in}
 use Rattle.sky.specs.Request.{instant}
+use Rattle.capi.specs.Codes.{body-refusal}
+use Rattle.capi.specs.Requests.{batch-answer}
 use Rattle.capi.proofs.batches.raddlehue_batch.Statement.{statement}
 use Rattle.capi.proofs.batches.raddlehue_batch.Tie as tie
+
+-- a batch of a known body
+module _ (c : tie.After-batch-numbers2) where
+  abbrev p : tie.After-places-at
+  p = c .before .before .before
+
+  abbrev b : tie.After-body-of
+  b = p .before .before .before
+
+  abbrev s : tie.Start
+  s = b .before .before .before .before
+
+  answer : batch-answer (c .batch-numbers2 .result) ≡ answer-of (p .places-at .result)
+  answer = c .batch-numbers2 .ensures
+
+  known : eqb (body-refusal (s .args .body)) 0 ≡ true
+  known = eq-eqb _ _ (sym (b .before .before .body-refusal .ensures) ∙ b .before .if1 .left)
 
 body-refusal-requires : tie.Need-body-refusal-requires
 body-refusal-requires c κs = search needs
@@ -36,16 +57,13 @@ same-length-2 c = search needs
 
 returns-2 : tie.Need-returns-2
 returns-2 c =
-    let p = c .before .before .before in
-    let b = p .before .before .before in
-    let s = b .before .before .before .before in
-    let answer = c .batch-numbers2 .ensures in
-    let at = instant (s .args .start) in
-    let offsets = s .args .offsets .now in (
-      answer ∙ p .places-at .ensures .0 ∙ simp (← b .before .before .body-refusal .ensures, eq-eqb _ _ (b .before .if1 .left)),
+    let a = s c .args in
+    let body = b c .body-of .ensures in
+    let done = p c .places-at .ensures in (
+      answer c ∙ done .0 ∙ simp (known c),
       (
-        p .places-at .ensures .1 .0 ∙ (λ i. left-in (sym answer i) (azimuth-at (b .body-of .ensures i) (s .args .point) at) offsets (s .args .azimuths .now)),
-        p .places-at .ensures .1 .1 ∙ (λ i. left-in (sym answer i) (elevation-at (b .body-of .ensures i) (s .args .point) at) offsets (s .args .elevations .now)),
+        done .1 .0 ∙ (λ i. left-in (sym (answer c) i) (azimuth-at (body i) (a .point) (instant (a .start))) (a .offsets .now) (a .azimuths .now)),
+        done .1 .1 ∙ (λ i. left-in (sym (answer c) i) (elevation-at (body i) (a .point) (instant (a .start))) (a .offsets .now) (a .elevations .now)),
       ),
     )
 
