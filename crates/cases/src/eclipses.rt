@@ -1,0 +1,118 @@
+// 003's Table 4: at each instant and point the Sun and the Moon stand together.
+use super::report::double;
+use super::report::named;
+use super::report::write;
+use numbers::sine::cosine;
+use sky::air::Air;
+use sky::answer::PlaceAnswer;
+use sky::answer::place;
+use sky::place::Place;
+use sky::request::Body;
+use sky::request::Point;
+use sky::request::Start;
+use sums::instant::SECOND;
+
+// "within the stated uncertainty of ±0.003° in the azimuth angle" (003, section 5.4.4).
+const STATED: f64 = 300_000.0;
+
+fn size(x: f64) -> f64 {
+    if x < 0.0 { -x } else { x }
+}
+
+// The Sun and the Moon are no wider apart than the way along the Sun's parallel to the Moon's azimuth, and from there up or down.
+fn are_together(sun: Place, moon: Place) -> bool {
+    let level = sun.elevation;
+    let along = double(moon.azimuth) - double(sun.azimuth);
+    let up = double(moon.elevation) - double(level);
+    let across = along * double(cosine(level)) / 1_000_000_000.0;
+    size(across) + size(up) <= STATED
+}
+
+fn is_eclipse(start: Start, point: Point) -> bool {
+    let sun = place(start, Body::Sun, point, Air::None);
+    let moon = place(start, Body::Moon, point, Air::None);
+    let PlaceAnswer::Seen(a) = sun else {
+        return false;
+    };
+    let PlaceAnswer::Seen(b) = moon else {
+        return false;
+    };
+    are_together(a, b)
+}
+
+// A row of the table: year to second of UT, delta-T in tenths, and the point in 10⁻⁷ degree.
+fn eclipse(name: &[u8], date: [i64; 6], delta: i64, longitude: i64, latitude: i64) {
+    let start = Start {
+        year: date[0],
+        month: date[1],
+        day: date[2],
+        hour: date[3],
+        minute: date[4],
+        second: date[5],
+        fraction: 0,
+        ut1: 0,
+        delta,
+    };
+    let point = Point {
+        longitude,
+        latitude,
+        height: 0,
+    };
+    named(name, is_eclipse(start, point));
+}
+
+const TENTH: i64 = (SECOND / 10) as i64;
+
+pub fn table_4() {
+    write(b"003 Table 4:");
+    eclipse(
+        b" 2009-07-22",
+        [2009, 7, 22, 2, 33, 0],
+        664 * TENTH,
+        1_433_617_000,
+        246_117_000,
+    );
+    eclipse(
+        b" 2008-08-01",
+        [2008, 8, 1, 9, 47, 18],
+        658 * TENTH,
+        347_417_000,
+        811_133_000,
+    );
+    eclipse(
+        b" 2006-03-29",
+        [2006, 3, 29, 10, 33, 18],
+        649 * TENTH,
+        228_867_000,
+        296_200_000,
+    );
+    eclipse(
+        b" 2005-04-08",
+        [2005, 4, 8, 20, 15, 36],
+        648 * TENTH,
+        -1_234_817_000,
+        -157_883_000,
+    );
+    eclipse(
+        b" 2002-12-04",
+        [2002, 12, 4, 7, 38, 42],
+        644 * TENTH,
+        628_383_000,
+        -405_283_000,
+    );
+    eclipse(
+        b" 2001-06-21",
+        [2001, 6, 21, 11, 57, 48],
+        642 * TENTH,
+        9_867_000,
+        -115_950_000,
+    );
+    eclipse(
+        b" 1981-02-04",
+        [1981, 2, 4, 21, 57, 36],
+        515 * TENTH,
+        -1_459_033_000,
+        -458_883_000,
+    );
+    write(b"\n");
+}

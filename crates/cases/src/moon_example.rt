@@ -1,0 +1,86 @@
+// 003's example (A.1): the inputs of Table A.1.1, and the results of Table A.1.2.
+use super::report::named;
+use super::report::near;
+use super::report::within;
+use super::report::write;
+use super::steps::powers_of;
+use super::steps::steps_to;
+use numbers::sine_table::table;
+use sky::air::Air;
+use sky::answer::ShownAnswer;
+use sky::answer::shown_place;
+use sky::request::Body;
+use sky::request::Point;
+use sky::request::Start;
+use sums::instant::SECOND;
+use sums::moon::arguments;
+use sums::moon::moon_at;
+
+// Delta-T is 66.4 seconds.
+fn start() -> Start {
+    Start {
+        year: 2009,
+        month: 7,
+        day: 22,
+        hour: 1,
+        minute: 33,
+        second: 0,
+        fraction: 0,
+        ut1: 0,
+        delta: (664 * SECOND / 10) as i64,
+    }
+}
+
+fn site() -> Point {
+    Point {
+        longitude: 1_433_616_700,
+        latitude: 246_116_700,
+        height: 0,
+    }
+}
+
+// To one of the last printed digit: 118.2130333, 358.2658977, 196.845702 and 6.110197 degrees.
+fn mean_arguments() {
+    let mean = arguments(powers_of(start()));
+    named(b" L'", within(mean[0], 11_821_303_330, 10));
+    named(b" D", within(mean[1], 35_826_589_770, 10));
+    named(b" M", within(mean[2], 19_684_570_200, 100));
+    named(b" M'", within(mean[3], 611_019_700, 100));
+}
+
+// 118.7934477 and 0.131573 degrees, 357514.1221 km. The report's sums are exact and ours whole: 01 bounds what lies between
+// them by 500 units and 10 metres.
+fn centre() {
+    let moon = moon_at(&table(), powers_of(start()));
+    let steps = steps_to(Body::Moon, start(), site());
+    let body = steps.centre;
+    named(b" lambda", within(body.longitude, 11_879_344_770, 500));
+    named(b" beta", within(body.latitude, 13_157_300, 500));
+    named(b" Delta", within(moon.metres, 357_514_122, 10));
+}
+
+// "zenith angle with uncertainty of ±0.001° and azimuth angle with uncertainty of ±0.003°" (003, abstract).
+fn place(body: Body, azimuth: f64, zenith: f64) {
+    let answer = shown_place(start(), body, site(), Air::Measured(1000.0, 11.0));
+    match answer {
+        ShownAnswer::Seen(shown) => {
+            named(b" azimuth", near(shown.azimuth, azimuth, 0.003));
+            named(b" zenith", near(90.0 - shown.elevation, zenith, 0.001));
+        }
+        ShownAnswer::Refused(_) => named(b" place", false),
+    }
+}
+
+// The printed zenith angles, 14.13343 and 14.50514, contradict the table. Its α' and δ' put the Moon at the hour angle 345.353564
+// and the elevation 75.854774; with the refraction 0.004187 of its air that is a zenith angle of 14.14104. Its Ems, 0.37481367, and
+// its azimuths put the Sun at 14.51274 then.
+pub fn table_a_1_2() {
+    write(b"003 Table A.1.2:");
+    mean_arguments();
+    centre();
+    write(b" Moon:");
+    place(Body::Moon, 104.19314, 14.14104);
+    write(b" Sun:");
+    place(Body::Sun, 104.38792, 14.51274);
+    write(b"\n");
+}

@@ -1,0 +1,36 @@
+// How a value is compared with a printed one, and what is written of it.
+use numbers::angle::Angle;
+use sky::request::is_between;
+
+const TURN: i64 = Angle::FULL as i64;
+
+// At most the tolerance away. A NaN is near nothing.
+pub fn near(value: f64, expected: f64, tolerance: f64) -> bool {
+    expected - tolerance <= value && value <= expected + tolerance
+}
+
+// A whole number as a double, exactly; a NaN where it is beyond a turn, which nothing here is.
+pub fn double(x: i64) -> f64 {
+    if is_between(-TURN, x, TURN) {
+        x as f64
+    } else {
+        0.0 / 0.0
+    }
+}
+
+// The same in whole units, whose differences cannot wrap as doubles.
+pub fn within(value: i64, expected: i64, tolerance: i64) -> bool {
+    near(double(value), double(expected), double(tolerance))
+}
+
+pub fn write(words: &[u8]) {
+    io::write_all(1, words);
+}
+
+// A value's name, and a word that the stored output does not have where the value does not come out.
+pub fn named(name: &[u8], holds: bool) {
+    write(name);
+    if !holds {
+        write(b" DEVIATES");
+    }
+}

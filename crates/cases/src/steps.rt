@@ -1,0 +1,77 @@
+// The values that the reports print between an instant and a place.
+use numbers::angle::Angle;
+use numbers::sine_table::table;
+use sky::geocentric::Geocentric;
+use sky::geocentric::geocentric_at;
+use sky::place::Place;
+use sky::place::place_of;
+use sky::request::Body;
+use sky::request::Point;
+use sky::request::Start;
+use sky::request::instant_of;
+use sky::station::Station;
+use sky::station::station_at;
+use sums::instant::Powers;
+use sums::instant::powers_at;
+use sums::nutation::Nutation;
+use sums::nutation::nutation_at;
+ghost use mathlib.Core.Path.{_≡_};
+ghost use Rattle.sky.specs.Refusal.{first};
+ghost use Rattle.sky.specs.Request.{start-refusals, point-refusals};
+ghost use Rattle.sums.specs.Instant.{Reached};
+
+// Δψ and Δε, the apparent place from the Earth's centre, and the obliquity and the sidereal angle at the point.
+pub struct Steps {
+    pub nutation: Nutation,
+    pub centre: Geocentric,
+    pub station: Station,
+}
+
+// Of TT.
+pub fn powers_of(start: Start) -> Powers
+    requires { ⌜ first (start-refusals start) ≡ 0 ⌝ }
+    ensures { λ r. ⌜ Reached r ⌝ }
+{
+    powers_at(instant_of(start).tt)
+}
+
+// Of UT.
+fn universal_powers(start: Start) -> Powers
+    requires { ⌜ first (start-refusals start) ≡ 0 ⌝ }
+    ensures { λ r. ⌜ Reached r ⌝ }
+{
+    powers_at(instant_of(start).ut)
+}
+
+pub fn steps_to(body: Body, start: Start, point: Point) -> Steps
+    requires { ⌜ (first (start-refusals start) ≡ 0) × (first (point-refusals point) ≡ 0) ⌝ }
+{
+    let table = table();
+    let tt = powers_of(start);
+    let nutation = nutation_at(&table, tt);
+    let centre = geocentric_at(&table, body, tt, nutation.longitude);
+    let station = station_at(&table, point, universal_powers(start), tt, nutation);
+    Steps {
+        nutation,
+        centre,
+        station,
+    }
+}
+
+// From the south pole of an Earth without size, turned by the sidereal angle θ: the azimuth is α - θ, the elevation is -δ.
+pub fn from_south_pole(centre: Geocentric, obliquity: i64, sidereal: i64) -> Place {
+    let longitude = centre.longitude;
+    let latitude = centre.latitude;
+    let body = Geocentric {
+        longitude,
+        latitude,
+        parallax: 0,
+    };
+    let pole = Station {
+        sidereal,
+        obliquity,
+        latitude: -(Angle::QUARTER as i64),
+        height: 0,
+    };
+    place_of(&table(), body, pole)
+}

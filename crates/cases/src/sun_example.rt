@@ -1,0 +1,113 @@
+// 004's example (A.5): the site of its list, and the results of Table A5.1.
+use super::report::named;
+use super::report::near;
+use super::report::within;
+use super::report::write;
+use super::steps::Steps;
+use super::steps::from_south_pole;
+use super::steps::powers_of;
+use super::steps::steps_to;
+use numbers::sine_table::table;
+use sky::air::Air;
+use sky::answer::ShownAnswer;
+use sky::answer::shown_place;
+use sky::geocentric::Geocentric;
+use sky::request::Body;
+use sky::request::Point;
+use sky::request::Start;
+use sky::station::Station;
+use sums::instant::SECOND;
+use sums::sun::longitude_degrees;
+use sums::sun::sun_at;
+
+// 12:30:30 of a zone seven hours behind UT, delta-T 67 seconds.
+fn start() -> Start {
+    Start {
+        year: 2003,
+        month: 10,
+        day: 17,
+        hour: 19,
+        minute: 30,
+        second: 30,
+        fraction: 0,
+        ut1: 0,
+        delta: (67 * SECOND) as i64,
+    }
+}
+
+// The height is 1830.14 metres there.
+fn site() -> Point {
+    Point {
+        longitude: -1_051_786_000,
+        latitude: 397_424_760,
+        height: 1830,
+    }
+}
+
+// The report's sums are exact and ours whole: 01 bounds what lies between them by 1000, 100 and 500 of 10⁻¹⁰ (radian or AU).
+const LONGITUDE_BOUND: i64 = 573;
+
+const LATITUDE_BOUND: i64 = 57;
+
+const RADIUS_BOUND: i64 = 500;
+
+const TURN_LESS_H: i64 = 36_000_000_000 - 1_110_590_000;
+
+// 24.0182616917 degrees and 0.9965422974 AU.
+fn sums() {
+    let earth = sun_at(&table(), powers_of(start()));
+    let degrees = longitude_degrees(earth.longitude);
+    named(b" L", within(degrees, 2_401_826_169, LONGITUDE_BOUND));
+    named(b" R", within(earth.radius, 9_965_422_974, RADIUS_BOUND));
+}
+
+// 0.0001011219 and 204.0085519281 degrees.
+fn centre(body: Geocentric) {
+    named(b" beta", within(body.latitude, 10_112, LATITUDE_BOUND));
+    named(
+        b" lambda",
+        within(body.longitude, 20_400_855_193, LONGITUDE_BOUND),
+    );
+}
+
+// To one of the last printed digit: -0.00399840, 0.00166657 and 23.440465 degrees.
+fn nutation(steps: Steps) {
+    let nutation = steps.nutation;
+    let station = steps.station;
+    named(b" dpsi", within(nutation.longitude, -399_840, 1));
+    named(b" deps", within(nutation.obliquity, 166_657, 1));
+    named(b" epsilon", within(station.obliquity, 2_344_046_500, 100));
+}
+
+// 202.22741, -9.31434 and 11.105900 degrees, to one of the last digit of α. H is ν + σ - α, and no finer.
+fn equator(body: Geocentric, station: Station) {
+    let obliquity = station.obliquity;
+    let fixed = from_south_pole(body, obliquity, 0);
+    let turned = from_south_pole(body, obliquity, station.sidereal);
+    named(b" alpha", within(fixed.azimuth, 20_222_741_000, 1000));
+    named(b" delta", within(fixed.elevation, 931_434_000, 1000));
+    named(b" H", within(turned.azimuth, TURN_LESS_H, 1000));
+}
+
+// "uncertainties of ±0.0003°" in the zenith and azimuth angles (004, abstract and section 1).
+fn place() {
+    let answer = shown_place(start(), Body::Sun, site(), Air::Measured(820.0, 11.0));
+    match answer {
+        ShownAnswer::Seen(shown) => {
+            named(b" azimuth", near(shown.azimuth, 194.34024, 0.0003));
+            named(b" zenith", near(90.0 - shown.elevation, 50.11162, 0.0003));
+        }
+        ShownAnswer::Refused(_) => named(b" place", false),
+    }
+}
+
+pub fn table_a5_1() {
+    let steps = steps_to(Body::Sun, start(), site());
+    write(b"004 Table A5.1:");
+    sums();
+    centre(steps.centre);
+    nutation(steps);
+    equator(steps.centre, steps.station);
+    place();
+    write(b"\n");
+}
