@@ -15,9 +15,15 @@ use sky::request::Start;
 use sums::instant::SECOND;
 use sums::moon::arguments;
 use sums::moon::moon_at;
+ghost use mathlib.Core.Path.{_≡_};
+ghost use Rattle.sky.specs.Refusal.{first};
+ghost use Rattle.sky.specs.Request.{start-refusals, point-refusals};
 
-// Delta-T is 66.4 seconds.
-fn start() -> Start {
+const DELTA: i64 = (664 * SECOND / 10) as i64;
+
+fn start() -> Start
+    ensures { λ r. ⌜ first (start-refusals r) ≡ 0 ⌝ }
+{
     Start {
         year: 2009,
         month: 7,
@@ -27,11 +33,13 @@ fn start() -> Start {
         second: 0,
         fraction: 0,
         ut1: 0,
-        delta: (664 * SECOND / 10) as i64,
+        delta: DELTA,
     }
 }
 
-fn site() -> Point {
+fn site() -> Point
+    ensures { λ r. ⌜ first (point-refusals r) ≡ 0 ⌝ }
+{
     Point {
         longitude: 1_433_616_700,
         latitude: 246_116_700,

@@ -19,9 +19,16 @@ use sky::station::Station;
 use sums::instant::SECOND;
 use sums::sun::longitude_degrees;
 use sums::sun::sun_at;
+ghost use mathlib.Core.Path.{_≡_};
+ghost use Rattle.sky.specs.Refusal.{first};
+ghost use Rattle.sky.specs.Request.{start-refusals, point-refusals};
 
-// 12:30:30 of a zone seven hours behind UT, delta-T 67 seconds.
-fn start() -> Start {
+const DELTA: i64 = (67 * SECOND) as i64;
+
+// 12:30:30 of a zone seven hours behind UT.
+fn start() -> Start
+    ensures { λ r. ⌜ first (start-refusals r) ≡ 0 ⌝ }
+{
     Start {
         year: 2003,
         month: 10,
@@ -31,12 +38,14 @@ fn start() -> Start {
         second: 30,
         fraction: 0,
         ut1: 0,
-        delta: (67 * SECOND) as i64,
+        delta: DELTA,
     }
 }
 
 // The height is 1830.14 metres there.
-fn site() -> Point {
+fn site() -> Point
+    ensures { λ r. ⌜ first (point-refusals r) ≡ 0 ⌝ }
+{
     Point {
         longitude: -1_051_786_000,
         latitude: 397_424_760,

@@ -1,0 +1,14 @@
+-- `moon_example::start` meets its contract: none of 1 to 6 applies.
+use mathlib.Core.Path.{refl}
+use Rattle.numbers.specs.Calendar.{day-count, leap, month-length}
+use Rattle.sky.specs.Refusal.{between, first}
+use Rattle.sky.specs.Request.{is-clock}
+use Rattle.cases.proofs.moon_example.start.Statement.{statement}
+use Rattle.cases.proofs.moon_example.start.Tie as tie
+
+returns : tie.Need-returns
+unfolding first between is-clock day-count leap month-length
+returns c = refl
+
+pub start-spec : {M : Type 1} → statement M
+start-spec = tie.close (tie.spec returns)

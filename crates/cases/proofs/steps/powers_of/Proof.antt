@@ -1,0 +1,34 @@
+-- `steps::powers_of` meets its contract: an accepted start is within reach.
+use mathlib.Core.Path.{_∙_, ap, subst⁻¹}
+use Prim.Native.Nat.{_≤_}
+use lib.IntN.{natAbs, ℤ}
+use borrow.Author.Needs.{needs}
+use Rattle.numbers.proofs.Machine.{Mirror, asked}
+use Rattle.sky.proofs.RequestLaws.{start-reachable}
+use Rattle.sky.proofs.SkyMirror.{field}
+use Rattle.sums.proofs.InstantLaws.{reached}
+use Rattle.sums.specs.Instant.{furthest, powers}
+use Rattle.sums.specs.declared.instant.Instant.{Instant}
+use Rattle.cases.proofs.steps.powers_of.Statement.{statement}
+use Rattle.cases.proofs.steps.powers_of.Tie as tie
+
+module _ (c : tie.After-instant-of) where
+  near : natAbs (c .instant-of .result .tt) ≤ furthest
+  near =
+      subst⁻¹ (λ (i : Instant). natAbs (i .tt) ≤ furthest) (c .instant-of .ensures)
+      (start-reachable (c .before .args .start) (c .before .pre) .tt-near)
+
+  abbrev at : Mirror
+  at = field (c .instant-of .result .tt) near tt
+
+instant-of-requires : tie.Need-instant-of-requires
+instant-of-requires c κs = search needs
+
+powers-at-requires : tie.Need-powers-at-requires
+powers-at-requires c κs = asked (at (c .before)) tt
+
+returns : tie.Need-returns
+returns c = reached (c .powers-at .ensures ∙ ap powers (at (c .before .before) .same)) (near (c .before .before))
+
+pub powers-of-spec : {M : Type 1} → statement M
+powers-of-spec = tie.close (tie.spec instant-of-requires powers-at-requires returns)
