@@ -12,6 +12,7 @@ use sky::heading::middle_azimuth;
 use sky::request::Body;
 use sky::request::Point;
 use sky::request::Start;
+use sky::shown::Shown;
 
 // At noon of a New Year's Day, and a second.
 fn start_at(year: i64, second: i64) -> Start {
@@ -57,50 +58,68 @@ pub fn run_cases() {
     let equator = point_at(0);
     let noon = start_at(2000, 0);
     write(b"01:");
-    named(b" full-turn", middle_refusal(36_000_000_000, 0) == 15);
+    named(b"full-turn", middle_refusal(36_000_000_000, 0) == 15);
     named(
-        b" second-60",
+        b"second-60",
         refusal_of(start_at(2000, 60), equator, Air::None) == 4,
     );
     named(
-        b" year-2101",
+        b"year-2101",
         refusal_of(start_at(2101, 0), equator, Air::None) == 1,
     );
     named(
-        b" pole",
+        b"pole",
         refusal_of(noon, point_at(900_000_000), Air::None) == 0,
     );
     named(
-        b" past-pole",
+        b"past-pole",
         refusal_of(noon, point_at(900_000_001), Air::None) == 8,
     );
     write(b"\n");
 }
 
-// Standard air is measured air at 1010 mbar and 10 degrees, bit for bit.
-fn is_standard(standard: ShownAnswer, measured: ShownAnswer) -> bool {
-    let ShownAnswer::Seen(a) = standard else {
-        return false;
-    };
-    let ShownAnswer::Seen(b) = measured else {
-        return false;
-    };
-    near(a.azimuth, b.azimuth, 0.0)
-        && near(a.elevation, b.elevation, 0.0)
-        && near(a.refraction, b.refraction, 0.0)
+// No more and no less than the other.
+fn same(a: f64, b: f64) -> bool {
+    near(a, b, 0.0)
+}
+
+// Standard air is measured air at 1010 mbar and 10 degrees.
+fn are_same(a: Shown, b: Shown) -> bool {
+    same(a.azimuth, b.azimuth) && same(a.elevation, b.elevation) && same(a.refraction, b.refraction)
+}
+
+// Air raises what is seen by the refraction, and moves it no other way.
+fn is_raised(bare: Shown, seen: Shown) -> bool {
+    let raised = bare.elevation + seen.refraction;
+    same(bare.azimuth, seen.azimuth)
+        && same(raised, seen.elevation)
+        && bare.elevation < seen.elevation
+}
+
+// At noon of 2000-01-01 on the meridian of Greenwich; a refused place is all zeros.
+fn shown_in(air: Air) -> Shown {
+    let answer = shown_place(start_at(2000, 0), Body::Sun, point_at(400_000_000), air);
+    match answer {
+        ShownAnswer::Seen(shown) => shown,
+        ShownAnswer::Refused(_) => Shown {
+            azimuth: 0.0,
+            elevation: 0.0,
+            refraction: 0.0,
+        },
+    }
 }
 
 pub fn whole_path() {
-    let noon = start_at(2000, 0);
-    let point = point_at(400_000_000);
-    let standard = shown_place(noon, Body::Sun, point, Air::Standard);
-    let measured = shown_place(noon, Body::Sun, point, Air::Measured(1010.0, 10.0));
-    let nan = 0.0 / 0.0;
+    let seen = shown_in(Air::Standard);
+    let measured = shown_in(Air::Measured(1010.0, 10.0));
+    let bare = shown_in(Air::None);
+    let unknown = Air::Measured(0.0 / 0.0, 10.0);
     write(b"requests:");
-    named(b" standard-air", is_standard(standard, measured));
+    named(b"standard", are_same(seen, measured));
+    named(b"raised", is_raised(bare, seen));
     named(
-        b" pressure-nan",
-        refusal_of(noon, point, Air::Measured(nan, 10.0)) == 10,
+        b"nan-pressure",
+        refusal_of(start_at(2000, 0), point_at(0), unknown) == 10,
     );
     write(b"\n");
 }

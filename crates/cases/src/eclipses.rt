@@ -11,6 +11,8 @@ use sky::request::Body;
 use sky::request::Point;
 use sky::request::Start;
 use sums::instant::SECOND;
+ghost use Prim.Native.Nat.{_≤_};
+ghost use lib.IntN.{natAbs};
 
 // "within the stated uncertainty of ±0.003° in the azimuth angle" (003, section 5.4.4).
 const STATED: f64 = 300_000.0;
@@ -40,8 +42,10 @@ fn is_eclipse(start: Start, point: Point) -> bool {
     are_together(a, b)
 }
 
-// A row of the table: year to second of UT, delta-T in tenths, and the point in 10⁻⁷ degree.
-fn eclipse(name: &[u8], date: [i64; 6], delta: i64, longitude: i64, latitude: i64) {
+// A row of the table: year to second of UT, delta-T in tenths of a second, longitude and latitude in 10⁻⁴ degree.
+fn eclipse(name: &[u8], date: [i64; 6], tenths: u32, longitude: i64, latitude: i64)
+    requires { ⌜ (natAbs longitude ≤ 1_800_000) × (natAbs latitude ≤ 900_000) ⌝ }
+{
     let start = Start {
         year: date[0],
         month: date[1],
@@ -51,68 +55,24 @@ fn eclipse(name: &[u8], date: [i64; 6], delta: i64, longitude: i64, latitude: i6
         second: date[5],
         fraction: 0,
         ut1: 0,
-        delta,
+        delta: (tenths as u64 * SECOND / 10) as i64,
     };
     let point = Point {
-        longitude,
-        latitude,
+        longitude: 1000 * longitude,
+        latitude: 1000 * latitude,
         height: 0,
     };
     named(name, is_eclipse(start, point));
 }
 
-const TENTH: i64 = (SECOND / 10) as i64;
-
 pub fn table_4() {
     write(b"003 Table 4:");
-    eclipse(
-        b" 2009-07-22",
-        [2009, 7, 22, 2, 33, 0],
-        664 * TENTH,
-        1_433_617_000,
-        246_117_000,
-    );
-    eclipse(
-        b" 2008-08-01",
-        [2008, 8, 1, 9, 47, 18],
-        658 * TENTH,
-        347_417_000,
-        811_133_000,
-    );
-    eclipse(
-        b" 2006-03-29",
-        [2006, 3, 29, 10, 33, 18],
-        649 * TENTH,
-        228_867_000,
-        296_200_000,
-    );
-    eclipse(
-        b" 2005-04-08",
-        [2005, 4, 8, 20, 15, 36],
-        648 * TENTH,
-        -1_234_817_000,
-        -157_883_000,
-    );
-    eclipse(
-        b" 2002-12-04",
-        [2002, 12, 4, 7, 38, 42],
-        644 * TENTH,
-        628_383_000,
-        -405_283_000,
-    );
-    eclipse(
-        b" 2001-06-21",
-        [2001, 6, 21, 11, 57, 48],
-        642 * TENTH,
-        9_867_000,
-        -115_950_000,
-    );
-    eclipse(
-        b" 1981-02-04",
-        [1981, 2, 4, 21, 57, 36],
-        515 * TENTH,
-        -1_459_033_000,
-        -458_883_000,
-    );
+    eclipse(b"2009", [2009, 7, 22, 2, 33, 0], 664, 1_433_617, 246_117);
+    eclipse(b"2008", [2008, 8, 1, 9, 47, 18], 658, 347_417, 811_133);
+    eclipse(b"2006", [2006, 3, 29, 10, 33, 18], 649, 228_867, 296_200);
+    eclipse(b"2005", [2005, 4, 8, 20, 15, 36], 648, -1_234_817, -157_883);
+    eclipse(b"2002", [2002, 12, 4, 7, 38, 42], 644, 628_383, -405_283);
+    eclipse(b"2001", [2001, 6, 21, 11, 57, 48], 642, 9_867, -115_950);
+    eclipse(b"1981", [1981, 2, 4, 21, 57, 36], 515, -1_459_033, -458_883);
     write(b"\n");
 }

@@ -3,7 +3,7 @@ use super::report::named;
 use super::report::near;
 use super::report::within;
 use super::report::write;
-use super::steps::powers_of;
+use super::steps::moment_of;
 use super::steps::steps_to;
 use numbers::sine_table::table;
 use sky::air::Air;
@@ -49,22 +49,22 @@ fn site() -> Point
 
 // To one of the last printed digit: 118.2130333, 358.2658977, 196.845702 and 6.110197 degrees.
 fn mean_arguments() {
-    let mean = arguments(powers_of(start()));
-    named(b" L'", within(mean[0], 11_821_303_330, 10));
-    named(b" D", within(mean[1], 35_826_589_770, 10));
-    named(b" M", within(mean[2], 19_684_570_200, 100));
-    named(b" M'", within(mean[3], 611_019_700, 100));
+    let mean = arguments(moment_of(start()).tt);
+    named(b"L'", within(mean[0], 11_821_303_330, 10));
+    named(b"D", within(mean[1], 35_826_589_770, 10));
+    named(b"M", within(mean[2], 19_684_570_200, 100));
+    named(b"M'", within(mean[3], 611_019_700, 100));
 }
 
 // 118.7934477 and 0.131573 degrees, 357514.1221 km. The report's sums are exact and ours whole: 01 bounds what lies between
 // them by 500 units and 10 metres.
 fn centre() {
-    let moon = moon_at(&table(), powers_of(start()));
+    let moon = moon_at(&table(), moment_of(start()).tt);
     let steps = steps_to(Body::Moon, start(), site());
     let body = steps.centre;
-    named(b" lambda", within(body.longitude, 11_879_344_770, 500));
-    named(b" beta", within(body.latitude, 13_157_300, 500));
-    named(b" Delta", within(moon.metres, 357_514_122, 10));
+    named(b"lambda", within(body.longitude, 11_879_344_770, 500));
+    named(b"beta", within(body.latitude, 13_157_300, 500));
+    named(b"Delta", within(moon.metres, 357_514_122, 10));
 }
 
 // "zenith angle with uncertainty of ±0.001° and azimuth angle with uncertainty of ±0.003°" (003, abstract).
@@ -72,10 +72,10 @@ fn place(body: Body, azimuth: f64, zenith: f64) {
     let answer = shown_place(start(), body, site(), Air::Measured(1000.0, 11.0));
     match answer {
         ShownAnswer::Seen(shown) => {
-            named(b" azimuth", near(shown.azimuth, azimuth, 0.003));
-            named(b" zenith", near(90.0 - shown.elevation, zenith, 0.001));
+            named(b"azimuth", near(shown.azimuth, azimuth, 0.003));
+            named(b"zenith", near(90.0 - shown.elevation, zenith, 0.001));
         }
-        ShownAnswer::Refused(_) => named(b" place", false),
+        ShownAnswer::Refused(_) => named(b"place", false),
     }
 }
 

@@ -29,6 +29,7 @@ pub fn write(words: &[u8]) {
 
 // A value's name, and a word that the stored output does not have where the value does not come out.
 pub fn named(name: &[u8], holds: bool) {
+    write(b" ");
     write(name);
     if !holds {
         write(b" DEVIATES");

@@ -27,30 +27,32 @@ pub struct Steps {
     pub station: Station,
 }
 
-// Of TT.
-pub fn powers_of(start: Start) -> Powers
-    requires { ⌜ first (start-refusals start) ≡ 0 ⌝ }
-    ensures { λ r. ⌜ Reached r ⌝ }
-{
-    powers_at(instant_of(start).tt)
+// The powers of both scales.
+pub struct Moment {
+    pub ut: Powers,
+    pub tt: Powers,
 }
 
-// Of UT.
-fn universal_powers(start: Start) -> Powers
+pub fn moment_of(start: Start) -> Moment
     requires { ⌜ first (start-refusals start) ≡ 0 ⌝ }
-    ensures { λ r. ⌜ Reached r ⌝ }
+    ensures { λ r. ⌜ Reached (r .ut) × Reached (r .tt) ⌝ }
 {
-    powers_at(instant_of(start).ut)
+    let instant = instant_of(start);
+    let ut = powers_at(instant.ut);
+    let tt = powers_at(instant.tt);
+    Moment { ut, tt }
 }
 
 pub fn steps_to(body: Body, start: Start, point: Point) -> Steps
     requires { ⌜ (first (start-refusals start) ≡ 0) × (first (point-refusals point) ≡ 0) ⌝ }
 {
     let table = table();
-    let tt = powers_of(start);
+    let moment = moment_of(start);
+    let ut = moment.ut;
+    let tt = moment.tt;
     let nutation = nutation_at(&table, tt);
     let centre = geocentric_at(&table, body, tt, nutation.longitude);
-    let station = station_at(&table, point, universal_powers(start), tt, nutation);
+    let station = station_at(&table, point, ut, tt, nutation);
     Steps {
         nutation,
         centre,
