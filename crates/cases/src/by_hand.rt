@@ -14,7 +14,7 @@ use sky::request::Point;
 use sky::request::Start;
 use sky::shown::Shown;
 
-// At noon of a New Year's Day, and a second.
+// The first of January at 12:00 and a second.
 fn start_at(year: i64, second: i64) -> Start {
     Start {
         year,

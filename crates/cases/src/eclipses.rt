@@ -21,7 +21,7 @@ fn size(x: f64) -> f64 {
     if x < 0.0 { -x } else { x }
 }
 
-// The Sun and the Moon are no wider apart than the way along the Sun's parallel to the Moon's azimuth, and from there up or down.
+// The separation is no more than the way along the Sun's parallel to the Moon's azimuth, and from there up or down.
 fn are_together(sun: Place, moon: Place) -> bool {
     let level = sun.elevation;
     let along = double(moon.azimuth) - double(sun.azimuth);

@@ -1,4 +1,5 @@
-// 01's run cases and the reports' own examples. A line names the values of one table that come out; the stored output has them all.
+// 01's run cases and the reports' own examples. Each line names the values of one table, and marks those that do not come out: the
+// stored output has no mark.
 mod by_hand;
 mod eclipses;
 mod moon_example;

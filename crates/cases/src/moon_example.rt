@@ -47,7 +47,7 @@ fn site() -> Point
     }
 }
 
-// To one of the last printed digit: 118.2130333, 358.2658977, 196.845702 and 6.110197 degrees.
+// L' 118.2130333, D 358.2658977, M 196.845702 and M' 6.110197 degrees, to one of the last printed digit.
 fn mean_arguments() {
     let mean = arguments(moment_of(start()).tt);
     named(b"L'", within(mean[0], 11_821_303_330, 10));
@@ -56,8 +56,8 @@ fn mean_arguments() {
     named(b"M'", within(mean[3], 611_019_700, 100));
 }
 
-// 118.7934477 and 0.131573 degrees, 357514.1221 km. The report's sums are exact and ours whole: 01 bounds what lies between
-// them by 500 units and 10 metres.
+// λ 118.7934477 and β 0.131573 degrees, Δ 357514.1221 km. The report's sums are exact and 01's are of whole numbers, apart by at most
+// 500 units and 10 metres ("Bounds for demand 3").
 fn centre() {
     let moon = moon_at(&table(), moment_of(start()).tt);
     let steps = steps_to(Body::Moon, start(), site());
@@ -79,9 +79,9 @@ fn place(body: Body, azimuth: f64, zenith: f64) {
     }
 }
 
-// The printed zenith angles, 14.13343 and 14.50514, contradict the table. Its α' and δ' put the Moon at the hour angle 345.353564
-// and the elevation 75.854774; with the refraction 0.004187 of its air that is a zenith angle of 14.14104. Its Ems, 0.37481367, and
-// its azimuths put the Sun at 14.51274 then.
+// The printed zenith angles, 14.13343 and 14.50514, contradict the table. By its α' 121.202944 and δ' 20.448307, at the sidereal time
+// 323.194838, the Moon's hour angle is 345.353564 and its elevation 75.854774; its air refracts by 0.004187; so its zenith angle is
+// 14.14104. By Ems 0.37481367 and the azimuths the Sun's is 14.51274 then.
 pub fn table_a_1_2() {
     write(b"003 Table A.1.2:");
     mean_arguments();

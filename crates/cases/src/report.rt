@@ -9,7 +9,7 @@ pub fn near(value: f64, expected: f64, tolerance: f64) -> bool {
     expected - tolerance <= value && value <= expected + tolerance
 }
 
-// A whole number as a double, exactly; a NaN where it is beyond a turn, which nothing here is.
+// A whole number as a double, exactly; a NaN beyond a turn, where nothing compared here lies.
 pub fn double(x: i64) -> f64 {
     if is_between(-TURN, x, TURN) {
         x as f64
@@ -18,7 +18,7 @@ pub fn double(x: i64) -> f64 {
     }
 }
 
-// The same in whole units, whose differences cannot wrap as doubles.
+// The same in whole units: as doubles their differences cannot wrap.
 pub fn within(value: i64, expected: i64, tolerance: i64) -> bool {
     near(double(value), double(expected), double(tolerance))
 }
@@ -27,7 +27,7 @@ pub fn write(words: &[u8]) {
     io::write_all(1, words);
 }
 
-// A value's name, and a word that the stored output does not have where the value does not come out.
+// A value's name, marked where the value does not come out.
 pub fn named(name: &[u8], holds: bool) {
     write(b" ");
     write(name);

@@ -27,7 +27,7 @@ pub struct Steps {
     pub station: Station,
 }
 
-// The powers of both scales.
+// The powers of UT and of TT.
 pub struct Moment {
     pub ut: Powers,
     pub tt: Powers,

@@ -42,7 +42,7 @@ fn start() -> Start
     }
 }
 
-// The height is 1830.14 metres there.
+// The report's height is 1830.14 metres.
 fn site() -> Point
     ensures { λ r. ⌜ first (point-refusals r) ≡ 0 ⌝ }
 {
@@ -53,16 +53,18 @@ fn site() -> Point
     }
 }
 
-// The report's sums are exact and ours whole: 01 bounds what lies between them by 1000, 100 and 500 of 10⁻¹⁰ (radian or AU).
+// The report's sums are exact and 01's are of whole numbers, apart by at most 1000, 100 and 500 of 10⁻¹⁰ radian or AU ("Bounds for
+// demand 3"). Here L, B and R are 33, 3 and 20 of them apart.
 const LONGITUDE_BOUND: i64 = 573;
 
 const LATITUDE_BOUND: i64 = 57;
 
 const RADIUS_BOUND: i64 = 500;
 
+// α - θ is -H.
 const TURN_LESS_H: i64 = 36_000_000_000 - 1_110_590_000;
 
-// 24.0182616917 degrees and 0.9965422974 AU.
+// L 24.0182616917 degrees, R 0.9965422974 AU.
 fn sums() {
     let earth = sun_at(&table(), moment_of(start()).tt);
     let degrees = longitude_degrees(earth.longitude);
@@ -70,7 +72,7 @@ fn sums() {
     named(b"R", within(earth.radius, 9_965_422_974, RADIUS_BOUND));
 }
 
-// 0.0001011219 and 204.0085519281 degrees.
+// β 0.0001011219 and λ 204.0085519281 degrees.
 fn centre(body: Geocentric) {
     named(b"beta", within(body.latitude, 10_112, LATITUDE_BOUND));
     named(
@@ -79,7 +81,7 @@ fn centre(body: Geocentric) {
     );
 }
 
-// To one of the last printed digit: -0.00399840, 0.00166657 and 23.440465 degrees.
+// Δψ -0.00399840, Δε 0.00166657 and ε 23.440465 degrees, to one of the last printed digit.
 fn nutation(steps: Steps) {
     let nutation = steps.nutation;
     let station = steps.station;
@@ -88,7 +90,7 @@ fn nutation(steps: Steps) {
     named(b"epsilon", within(station.obliquity, 2_344_046_500, 100));
 }
 
-// 202.22741, -9.31434 and 11.105900 degrees, to one of the last digit of α. H is ν + σ - α and no finer; H + α is 213.33331.
+// α 202.22741, δ -9.31434 and H 11.105900 degrees, to one of the last digit of α: H is ν + σ - α, and no finer. H + α is 213.33331.
 fn equator(body: Geocentric, station: Station) {
     let obliquity = station.obliquity;
     let fixed = from_south_pole(body, obliquity, 0);
@@ -99,8 +101,8 @@ fn equator(body: Geocentric, station: Station) {
     named(b"H", within(turned.azimuth, TURN_LESS_H, 1000));
 }
 
-// "uncertainties of ±0.0003°" in the zenith and azimuth angles (004, abstract and section 1). The table's H' and δ' put the Sun 39.87204
-// degrees high, and its zenith angle has the refraction in it: 0.01634 degree more.
+// Zenith and azimuth angles "with uncertainties of ±0.0003°" (004, abstract). The table's H' and δ' put the Sun 39.87204 degrees high,
+// and its zenith angle has the refraction in it: 0.01634 degree.
 fn place() {
     let answer = shown_place(start(), Body::Sun, site(), Air::Measured(820.0, 11.0));
     match answer {
