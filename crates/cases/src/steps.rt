@@ -17,7 +17,11 @@ use sums::nutation::Nutation;
 use sums::nutation::nutation_at;
 ghost use mathlib.Core.Path.{_≡_};
 ghost use Rattle.sky.specs.Refusal.{first};
-ghost use Rattle.sky.specs.Request.{start-refusals, point-refusals};
+ghost use Rattle.sky.specs.Request.{instant, start-refusals, point-refusals};
+ghost use Rattle.sky.specs.Geocentric.{geocentric};
+ghost use Rattle.sky.specs.Station.{station};
+ghost use Rattle.sums.specs.Nutation.{Δψ, Δε};
+ghost use Rattle.cases.specs.Steps.{from-south-pole};
 ghost use Rattle.sums.specs.Instant.{Reached};
 
 // Δψ and Δε, the apparent place from the Earth's centre, and the obliquity and the sidereal angle at the point.
@@ -35,7 +39,7 @@ pub struct Moment {
 
 pub fn moment_of(start: Start) -> Moment
     requires { ⌜ first (start-refusals start) ≡ 0 ⌝ }
-    ensures { λ r. ⌜ Reached (r .ut) × Reached (r .tt) ⌝ }
+    ensures { λ r. ⌜ (Reached (r .ut) × Reached (r .tt)) × ((r .ut .n ≡ instant start .ut) × (r .tt .n ≡ instant start .tt)) ⌝ }
 {
     let instant = instant_of(start);
     let ut = powers_at(instant.ut);
@@ -45,6 +49,9 @@ pub fn moment_of(start: Start) -> Moment
 
 pub fn steps_to(body: Body, start: Start, point: Point) -> Steps
     requires { ⌜ (first (start-refusals start) ≡ 0) × (first (point-refusals point) ≡ 0) ⌝ }
+    ensures { λ r. ⌜ (r .nutation .longitude ≡ Δψ (instant start .tt)) × (r .nutation .obliquity ≡ Δε (instant start .tt)) ⌝ }
+    ensures { λ r. ⌜
+        (r .centre ≡ geocentric body (instant start .tt)) × (r .station ≡ station point (instant start .ut) (instant start .tt)) ⌝ }
 {
     let table = table();
     let moment = moment_of(start);
@@ -61,7 +68,9 @@ pub fn steps_to(body: Body, start: Start, point: Point) -> Steps
 }
 
 // From the south pole of an Earth without size, turned by the sidereal angle θ: the azimuth is α - θ, the elevation is -δ.
-pub fn from_south_pole(centre: Geocentric, obliquity: i64, sidereal: i64) -> Place {
+pub fn from_south_pole(centre: Geocentric, obliquity: i64, sidereal: i64) -> Place
+    ensures { λ r. ⌜ r ≡ from-south-pole centre obliquity sidereal ⌝ }
+{
     let longitude = centre.longitude;
     let latitude = centre.latitude;
     let body = Geocentric {

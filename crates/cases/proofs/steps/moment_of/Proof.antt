@@ -31,9 +31,11 @@ powers-at-requires-2 c κs = asked (tt₀ (c .before .before .before)) tt
 
 returns : tie.Need-returns
 returns c =
-    let i = c .before .before .before .before in (
-      reached (c .before .before .powers-at .ensures ∙ ap powers (ut i .same)) (reachable i .ut-near),
-      reached (c .powers-at2 .ensures ∙ ap powers (tt₀ i .same)) (reachable i .tt-near),
+    let i = c .before .before .before .before in
+    let ut-is = c .before .before .powers-at .ensures ∙ ap powers (ut i .same) in
+    let tt-is = c .powers-at2 .ensures ∙ ap powers (tt₀ i .same) in (
+      (reached ut-is (reachable i .ut-near), reached tt-is (reachable i .tt-near)),
+      (λ j. (ut-is ∙ (λ k. powers (i .instant-of .ensures k .ut))) j .n, λ j. (tt-is ∙ (λ k. powers (i .instant-of .ensures k .tt))) j .n),
     )
 
 pub moment-of-spec : {M : Type 1} → statement M

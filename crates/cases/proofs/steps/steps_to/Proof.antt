@@ -1,6 +1,10 @@
 -- `steps::steps_to` meets its contract.
+use mathlib.Core.Path.{_∙_, ap}
 use borrow.Author.Needs.{needs}
 use Rattle.sky.proofs.RequestLaws.{on-earth}
+use Rattle.sky.specs.Geocentric.{geocentric}
+use Rattle.sky.specs.Station.{station}
+use Rattle.sums.specs.Nutation.{Δε, Δψ}
 use Rattle.cases.proofs.steps.steps_to.Statement.{statement}
 use Rattle.cases.proofs.steps.steps_to.Tie as tie
 
@@ -22,11 +26,22 @@ station-at-requires c κs =
     let m = n .before .before .before .before in
     let s = m .before .before in (
       m .before .table .ensures,
-      (on-earth (s .args .point) (s .pre .1), (m .moment-of .ensures .0, (m .moment-of .ensures .1, (n .nutation-at .ensures .0, n .nutation-at .ensures .1)))),
+      (on-earth (s .args .point) (s .pre .1), (m .moment-of .ensures .0 .0, (m .moment-of .ensures .0 .1, (n .nutation-at .ensures .0, n .nutation-at .ensures .1)))),
     )
 
 returns : tie.Need-returns
-returns c = search needs
+returns c =
+    let n = c .before .before .before .before .before in
+    let m = n .before .before .before .before in
+    let s = m .before .before in
+    let ut-is = m .moment-of .ensures .1 .0 in
+    let tt-is = m .moment-of .ensures .1 .1 in (
+      (n .nutation-at .ensures .0 ∙ ap Δψ tt-is, n .nutation-at .ensures .1 ∙ ap Δε tt-is),
+      (
+        c .before .before .geocentric-at .ensures ∙ ap (geocentric (s .args .body)) tt-is,
+        c .station-at .ensures ∙ (λ i. station (s .args .point) (ut-is i) (tt-is i)),
+      ),
+    )
 
 pub steps-to-spec : {M : Type 1} → statement M
 steps-to-spec =
