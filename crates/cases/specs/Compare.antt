@@ -1,0 +1,18 @@
+-- How a value is compared with a printed one.
+use mathlib.Core.Bool.{Bool, cond}
+use lib.IntN.{pos, ℤ}
+use lib.Ieee as Ieee
+use lib.Ieee.{Float}
+use Rattle.numbers.specs.Angle.{full-turn}
+use Rattle.sky.specs.Air.{within}
+use Rattle.sky.specs.Double.{_+d_, _/d_, double}
+use Rattle.sky.specs.Refusal.{between}
+use Rattle.sums.specs.Instant.{minus}
+
+-- at most the tolerance away; a float that is not a number is near nothing
+abbrev pub near : Float → Float → Float → Bool
+near value expected tolerance = within (Ieee.sub Ieee.binary64 expected tolerance) value (expected +d tolerance)
+
+-- a whole number as a double, or no number beyond a turn
+unfoldable pub whole : ℤ → Float
+whole x = cond (between (minus full-turn) x (pos full-turn)) (double x) (double (pos 0) /d double (pos 0))
