@@ -1,5 +1,5 @@
 -- `capi::places::shown_numbers` meets its contract.
-use mathlib.Core.Path.{_∙_, ap, sym}
+use mathlib.Core.Path.{ap, sym}
 use lib.Ieee as Ieee
 use borrow.Author.Needs.{needs}
 use Rattle.sky.specs.Answer.{shown-answer}
