@@ -1,4 +1,4 @@
-// The functions that C and Rust call, each a few lines over the library.
+// The functions that C and Rust call, each a few lines over the library. A start and a point are sky's own structs, in the layout of C.
 pub mod batches;
 pub mod codes;
 pub mod headings;
