@@ -1,4 +1,5 @@
 pub mod RequestLaws
+pub mod SheetLaws
 pub mod BatchLaws
 pub mod HeadingLaws
 pub mod SkySizes

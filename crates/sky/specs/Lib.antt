@@ -14,5 +14,6 @@ pub mod Place
 pub mod Refraction
 pub mod Shown
 pub mod Answer
+pub mod Sheet
 pub mod SkyRange
 pub mod Cases

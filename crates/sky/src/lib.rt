@@ -10,6 +10,7 @@ pub mod place;
 pub mod product;
 pub mod refraction;
 pub mod request;
+pub mod sheet;
 pub mod shown;
 pub mod station;
 pub mod vector;

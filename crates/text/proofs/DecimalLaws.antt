@@ -118,3 +118,9 @@ pub from-zero : {z : ℤ} → pos 0 ≤ℤ z → decimal z ≡ digits (natAbs z)
 unfolding decimal
 from-zero {z = pos n} h = refl
 from-zero {z = negsuc n} h = absurd (h .le)
+
+-- any number of 64 bits has 20 bytes at most
+pub decimal-short : (z : ℤ) → natAbs z < 10 ^ 19 → length (decimal z) ≤ 20
+unfolding decimal
+decimal-short (pos n) h = omega (arith, few-digits 18 n h)
+decimal-short (negsuc n) h = omega (arith, few-digits 18 (suc n) h)
