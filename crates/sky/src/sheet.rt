@@ -97,6 +97,7 @@ fn appended_field(text: Text, value: i64, after: u8) -> Text
 
 fn arguments_text(found: Arguments) -> Text
     ensures { λ r. ⌜ written r ≡ arguments-line found ⌝ }
+    ensures { λ r. ⌜ r .length ≤ 80 ⌝ }
 {
     let first = appended_field(empty(), found.tt, b' ');
     let second = appended_field(first, found.longitude, b' ');
@@ -105,6 +106,7 @@ fn arguments_text(found: Arguments) -> Text
 
 fn refusal_text(refusal: u8) -> Text
     ensures { λ r. ⌜ written r ≡ refusal-line refusal ⌝ }
+    ensures { λ r. ⌜ r .length ≤ 80 ⌝ }
 {
     let word = appended_bytes(empty(), b"refused ");
     appended_field(word, refusal as i64, b'\n')
@@ -114,6 +116,7 @@ fn refusal_text(refusal: u8) -> Text
 fn row_text(row: Row) -> Text
     requires { ⌜ Numbered row ⌝ }
     ensures { λ r. ⌜ written r ≡ row-line (row-answer row) ⌝ }
+    ensures { λ r. ⌜ r .length ≤ 80 ⌝ }
 {
     match row {
         Row::Accepted(found) => arguments_text(found),
@@ -124,6 +127,7 @@ fn row_text(row: Row) -> Text
 // What is printed for a line.
 pub fn sheet_line(line: &[u8]) -> Text
     ensures { λ r. ⌜ written r ≡ sheet-line (now (line .entry)) ⌝ }
+    ensures { λ r. ⌜ r .length ≤ 80 ⌝ }
 {
     row_text(sheet_row(line))
 }

@@ -46,8 +46,11 @@ returns c =
     let k = a .before .before in
     let s = k .before in
     let all = appended-twice (appended-twice (a .appended-field .ensures .0) (b .appended-field2 .ensures .0)) (c .appended-field3 .ensures .0) in
-    from-empty (k .empty .ensures) all ∙ (λ i. fields (any (tt-fits s) .same i) (any (longitude-fits s) .same i) (any (sidereal-fits s) .same i))
-    ∙ fields-line (s .args .found)
+    (
+      from-empty (k .empty .ensures) all ∙ (λ i. fields (any (tt-fits s) .same i) (any (longitude-fits s) .same i) (any (sidereal-fits s) .same i))
+          ∙ fields-line (s .args .found),
+      omega (arith, none-used k, a .appended-field .ensures .1, b .appended-field2 .ensures .1, c .appended-field3 .ensures .1),
+    )
 
 pub arguments-text-spec : {M : Type 1} → statement M
 arguments-text-spec =

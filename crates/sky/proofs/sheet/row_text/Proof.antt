@@ -20,14 +20,14 @@ refusal-text-requires c κs = search needs
 
 returns : tie.Need-returns
 unfolding row-line
-returns c = rw (c .before .before .row .given .1) (c .arguments-text .ensures)
+returns c = (rw (c .before .before .row .given .1) (c .arguments-text .ensures .0), c .arguments-text .ensures .1)
 
 returns-2 : tie.Need-returns-2
 unfolding row-line
 returns-2 c =
     let k = c .before .before in
     let above = rw (k .row2 .given .1) at (k .before .before .pre) in
-    rw (k .row2 .given .1, ne-eqb (k .row2 .given .0 .0) 0 (λ e. omega (arith, above, e))) (c .refusal-text .ensures)
+    (rw (k .row2 .given .1, ne-eqb (k .row2 .given .0 .0) 0 (λ e. omega (arith, above, e))) (c .refusal-text .ensures .0), c .refusal-text .ensures .1)
 
 pub row-text-spec : {M : Type 1} → statement M
 row-text-spec =

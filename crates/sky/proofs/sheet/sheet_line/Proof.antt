@@ -13,7 +13,7 @@ row-text-requires c κs = search needs
 
 returns : tie.Need-returns
 unfolding sheet-line
-returns c = c .row-text .ensures ∙ ap row-line (c .before .sheet-row .ensures .0)
+returns c = (c .row-text .ensures .0 ∙ ap row-line (c .before .sheet-row .ensures .0), c .row-text .ensures .1)
 
 pub sheet-line-spec : {M : Type 1} → statement M
 sheet-line-spec = tie.close (tie.spec sheet-row-requires row-text-requires returns)

@@ -1,0 +1,80 @@
+// The answers to the lines that end in one part of the input, in a lent buffer.
+use super::line::Line;
+use super::line::answer;
+use super::line::longer;
+use super::line::no_line;
+use text::decimal::Text;
+ghost use mathlib.Core.List.{_++_};
+ghost use mathlib.Core.Path.{_≡_};
+ghost use Prim.Native.Nat.{_*_, _+_, _≤_};
+ghost use lib.ListN.{length, take};
+ghost use lib.Seq.{sets};
+ghost use Rattle.text.specs.Decimal.{written};
+ghost use Rattle.lines.specs.Lines.{Answered, Stepped, held, last-answer};
+
+// The line so far, and how many bytes of the buffer are in use.
+pub struct Turn {
+    pub line: Line,
+    pub used: usize,
+}
+
+// Stores a text from a place of the buffer on, and gives the place after it.
+fn put(text: Text, out: &mut [u8], start: usize) -> usize
+    requires { ⌜ (text .length ≤ 80) × (start + 80 ≤ length (now out)) ⌝ }
+    ensures { λ r. ⌜ (now (out .exit) ≡ sets (now (out .entry)) start (written text)) × (r ≡ start + text .length) ⌝ }
+{
+    let bytes = text.bytes;
+    let size = text.length;
+    let mut at = 0;
+    while at < size {
+        out[start + at] = bytes[at];
+        at += 1;
+    }
+    start + size
+}
+
+// One byte of the input: a newline ends the line.
+fn step(turn: Turn, byte: u8, out: &mut [u8]) -> Turn
+    requires { ⌜ (turn .line .length ≤ 81) × (turn .used + 80 ≤ length (now out)) ⌝ }
+    ensures { λ r. ⌜ Stepped turn byte (now (out .entry)) (now (out .exit)) r ⌝ }
+{
+    let line = turn.line;
+    let used = turn.used;
+    if byte == b'\n' {
+        let next = put(answer(line), out, used);
+        return Turn {
+            line: no_line(),
+            used: next,
+        };
+    }
+    Turn {
+        line: longer(line, byte),
+        used,
+    }
+}
+
+// A part of the input; 80 bytes for each byte of it are enough.
+pub fn answer_chunk(line: Line, chunk: &[u8], out: &mut [u8]) -> Turn
+    requires { ⌜ (line .length ≤ 81) × (80 * length (now chunk) ≤ length (now out)) ⌝ }
+    ensures { λ r. ⌜ Answered line (now (chunk .entry)) (now (out .exit)) r ⌝ }
+{
+    let mut turn = Turn { line, used: 0 };
+    let mut at = 0;
+    while at < chunk.len() {
+        turn = step(turn, chunk[at], out);
+        at += 1;
+    }
+    turn
+}
+
+// At the end of the input a line without a newline is answered too.
+pub fn answer_last(line: Line, out: &mut [u8]) -> usize
+    requires { ⌜ (line .length ≤ 81) × (80 ≤ length (now out)) ⌝ }
+    ensures { λ r. ⌜ (r ≤ 80) × (take r (now (out .exit)) ≡ last-answer (held line)) ⌝ }
+{
+    let length = line.length;
+    if length == 0 {
+        return 0;
+    }
+    put(answer(line), out, 0)
+}
