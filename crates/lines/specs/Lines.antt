@@ -56,5 +56,10 @@ pub record Stepped (turn : Turn) (byte : ℕ) (entry exit : List ℕ) (next : Tu
 pub record Answered (before : Line) (chunk out : List ℕ) (next : Turn) : Type 0 where
   pub line-within : next .line .length ≤ 81
   pub used-within : next .used ≤ 80 * length chunk
-  pub printed : (line : List ℕ) → held before ≡ kept line → take (next .used) out ≡ answers line chunk
-  pub line : (line : List ℕ) → held before ≡ kept line → held (next .line) ≡ kept (left line chunk)
+  pub printed : (whole : List ℕ) → held before ≡ kept whole → take (next .used) out ≡ answers whole chunk
+  pub line : (whole : List ℕ) → held before ≡ kept whole → held (next .line) ≡ kept (left whole chunk)
+
+-- the end of the input
+pub record Ended (before : Line) (out : List ℕ) (used : ℕ) : Type 0 where
+  pub used-within : used ≤ 80
+  pub printed : (whole : List ℕ) → held before ≡ kept whole → take used out ≡ last-answer whole

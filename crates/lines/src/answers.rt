@@ -8,9 +8,8 @@ ghost use mathlib.Core.List.{_++_};
 ghost use mathlib.Core.Path.{_≡_};
 ghost use Prim.Native.Nat.{_*_, _+_, _≤_};
 ghost use lib.ListN.{length, take};
-ghost use lib.Seq.{sets};
 ghost use Rattle.text.specs.Decimal.{written};
-ghost use Rattle.lines.specs.Lines.{Answered, Stepped, held, last-answer};
+ghost use Rattle.lines.specs.Lines.{Answered, Ended, Stepped};
 
 // The line so far, and how many bytes of the buffer are in use.
 pub struct Turn {
@@ -21,7 +20,8 @@ pub struct Turn {
 // Stores a text from a place of the buffer on, and gives the place after it.
 fn put(text: Text, out: &mut [u8], start: usize) -> usize
     requires { ⌜ (text .length ≤ 80) × (start + 80 ≤ length (now out)) ⌝ }
-    ensures { λ r. ⌜ (now (out .exit) ≡ sets (now (out .entry)) start (written text)) × (r ≡ start + text .length) ⌝ }
+    ensures { λ r. ⌜ (r ≡ start + text .length) × (take r (now (out .exit)) ≡ take start (now (out .entry)) ++ written text) ⌝ }
+    ensures { λ _. ⌜ length (now (out .exit)) ≡ length (now (out .entry)) ⌝ }
 {
     let bytes = text.bytes;
     let size = text.length;
@@ -70,7 +70,7 @@ pub fn answer_chunk(line: Line, chunk: &[u8], out: &mut [u8]) -> Turn
 // At the end of the input a line without a newline is answered too.
 pub fn answer_last(line: Line, out: &mut [u8]) -> usize
     requires { ⌜ (line .length ≤ 81) × (80 ≤ length (now out)) ⌝ }
-    ensures { λ r. ⌜ (r ≤ 80) × (take r (now (out .exit)) ≡ last-answer (held line)) ⌝ }
+    ensures { λ r. ⌜ Ended line (now (out .exit)) r ⌝ }
 {
     let length = line.length;
     if length == 0 {

@@ -1,23 +1,27 @@
+-- `lines::line::answer` meets its contract.
+use mathlib.Core.Path.{_∙_, _≡_, sym}
+use native.Mathlib.Omega.{arith}
+use lib.ListN.{length, length-map}
+use lib.Seq.{length-take-le}
 use borrow.Author.Needs.{needs}
 use Rattle.lines.proofs.line.answer.Statement.{statement}
 use Rattle.lines.proofs.line.answer.Tie as tie
-use Rattle.lines.proofs.line.answer.Reads as reads
-use Rattle.lines.proofs.line.answer.Lts as lts
-use Rattle.sky.proofs.sheet.sheet_line.Reads as sheet-line-reads
 
--- src/line.rt:48:16
+-- the array of the struct has its length
+all-bytes : (s : tie.Start) → length (s .args .line .bytes) ≡ 81
+all-bytes s = sym (length-map (s .args .line .bytes) (λ v. v)) ∙ s .good .0 .1 .1 .0 .1 .0 .1
+
 array-share-prefix-bytes : tie.Need-array-share-prefix-bytes
-array-share-prefix-bytes c = ?
+array-share-prefix-bytes c = omega (arith, all-bytes (c .before), c .before .pre)
 
--- src/line.rt:48:16
 slice-aggregate-sheet-line : tie.Need-slice-aggregate-sheet-line
-slice-aggregate-sheet-line c = ?
+slice-aggregate-sheet-line c =
+    let s = c .before .before in
+    sym (length-take-le (s .args .line .length) (s .args .line .bytes) (omega (arith, all-bytes s, s .pre)))
 
--- src/line.rt:48:5
 sheet-line-requires : tie.Need-sheet-line-requires
 sheet-line-requires c κs = search needs
 
--- src/line.rt:42:1
 returns : tie.Need-returns
 returns c = search needs
 
