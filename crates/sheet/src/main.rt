@@ -1,0 +1,4 @@
+// The argument sheet, on the case of the build description.
+fn main() {
+    lines::run();
+}

@@ -1,0 +1,4 @@
+// The argument sheet, on empty input.
+fn main() {
+    lines::run();
+}
