@@ -112,11 +112,11 @@ answered-more {chunk} {byte} a s =
       used-within = omega (arith, s .used-within, a .used-within, length-append chunk (byte ∷ []));
       printed =
           λ whole e.
-            s .printed ∙ (λ i. a .printed whole e i ++ printed-at (a .line whole e i) byte)
-            ∙ ap (λ (r : List ℕ). answers whole chunk ++ r) (kept-printed (left whole chunk) byte ∙ sym (one-byte (left whole chunk) byte))
-            ∙ sym (answers-parts whole chunk (byte ∷ []));
+          s .printed ∙ (λ i. a .printed whole e i ++ printed-at (a .line whole e i) byte)
+          ∙ ap (λ (r : List ℕ). answers whole chunk ++ r) (kept-printed (left whole chunk) byte ∙ sym (one-byte (left whole chunk) byte))
+          ∙ sym (answers-parts whole chunk (byte ∷ []));
       line =
           λ whole e.
-            s .line ∙ ap (λ (l : List ℕ). kept (line-after l byte)) (a .line whole e) ∙ kept-after (left whole chunk) byte
-            ∙ ap kept (sym (left-parts whole chunk (byte ∷ []) ∙ one-left (left whole chunk) byte));
+          s .line ∙ ap (λ (l : List ℕ). kept (line-after l byte)) (a .line whole e) ∙ kept-after (left whole chunk) byte
+          ∙ ap kept (sym (left-parts whole chunk (byte ∷ []) ∙ one-left (left whole chunk) byte));
     }

@@ -33,7 +33,12 @@ step-requires c κs =
     let s = l .before .before .before in
     let done = l .loop .inv .1 .1 in
     let room : l .loop .turn .used + 80 ≤ length (l .loop .out) = omega (
-      arith, done .used-within, length-take-le (l .loop .at) (s .args .chunk .now) (l .loop .inv .0), c .before .before .loop-test .taken, s .pre .1, l .loop .inv .1 .0
+      arith,
+      done .used-within,
+      length-take-le (l .loop .at) (s .args .chunk .now) (l .loop .inv .0),
+      c .before .before .loop-test .taken,
+      s .pre .1,
+      l .loop .inv .1 .0,
     ) in
     (done .line-within, room)
 

@@ -57,8 +57,7 @@ loop-again c =
     let a = s l .args in
     let at = l .loop .at in
     let below : at < length (a .text .bytes) = omega (arith, c .loop-test .taken, s l .pre .0, all-bytes (s l)) in
-    let room : a .start + at < length (a .out .now) = omega (arith, c .loop-test .taken, s l .pre .0, s l .pre .1) in
-    (
+    let room : a .start + at < length (a .out .now) = omega (arith, c .loop-test .taken, s l .pre .0, s l .pre .1) in (
       omega (arith, c .loop-test .taken),
       ap (λ (out : List ℕ). set out (a .start + at) (getD (a .text .bytes) at 0)) (l .loop .inv .1)
           ∙ paste-suc (a .out .now) (a .start) (a .text .bytes) at 0 room below ∙ ap (λ (n : ℕ). paste (a .out .now) (a .start) (a .text .bytes) n) (sym (add-one at)),

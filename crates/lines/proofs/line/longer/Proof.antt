@@ -32,8 +32,7 @@ returns-2 c =
     let line = c .before .args .line in
     let added = held line ++ c .before .args .byte ∷ [] in
     let room : line .length < length (line .bytes) = omega (arith, all-bytes (c .before), c .if1 .left) in
-    let short : length added ≤ 81 = omega (arith, length-append (held line) (c .before .args .byte ∷ []), length-take-le (line .length) (line .bytes) (omega (arith, room)), c .if1 .left) in
-    (
+    let short : length added ≤ 81 = omega (arith, length-append (held line) (c .before .args .byte ∷ []), length-take-le (line .length) (line .bytes) (omega (arith, room)), c .if1 .left) in (
       omega (arith, c .if1 .left),
       ap (λ (n : ℕ). take n (set (line .bytes) (line .length) (c .before .args .byte))) (add-one (line .length))
           ∙ take-suc-set (line .bytes) (line .length) (c .before .args .byte) room ∙ sym (take-all 81 added short),

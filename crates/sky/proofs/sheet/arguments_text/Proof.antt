@@ -45,8 +45,7 @@ returns c =
     let a = b .before .before in
     let k = a .before .before in
     let s = k .before in
-    let all = appended-twice (appended-twice (a .appended-field .ensures .0) (b .appended-field2 .ensures .0)) (c .appended-field3 .ensures .0) in
-    (
+    let all = appended-twice (appended-twice (a .appended-field .ensures .0) (b .appended-field2 .ensures .0)) (c .appended-field3 .ensures .0) in (
       from-empty (k .empty .ensures) all ∙ (λ i. fields (any (tt-fits s) .same i) (any (longitude-fits s) .same i) (any (sidereal-fits s) .same i))
           ∙ fields-line (s .args .found),
       omega (arith, none-used k, a .appended-field .ensures .1, b .appended-field2 .ensures .1, c .appended-field3 .ensures .1),

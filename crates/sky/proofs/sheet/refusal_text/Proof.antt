@@ -42,8 +42,7 @@ returns : tie.Need-returns
 unfolding refusal-line bytes
 returns c =
     let k = c .before in
-    let number : toZ w64 (k .before .before .before .args .refusal) ≡ pos (k .before .before .before .args .refusal) = from-nat (refusal-most (k .before .before .before)) tt .same in
-    (
+    let number : toZ w64 (k .before .before .before .args .refusal) ≡ pos (k .before .before .before .args .refusal) = from-nat (refusal-most (k .before .before .before)) tt .same in (
       from-empty (k .before .before .empty .ensures) (appended-twice (k .appended-bytes .ensures) (c .appended-field .ensures .0)) ∙ (λ i. bytes "refused " ++ decimal (number i) ++ newline ∷ []),
       omega (arith, none-used (k .before .before), appended-length (k .appended-bytes .ensures), c .appended-field .ensures .1),
     )
