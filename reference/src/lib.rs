@@ -1,0 +1,42 @@
+//! Places of the Sun and the Moon from a point on Earth, by whole-number rules.
+//!
+//! An ordinary Rust version of the rules of document 01 and of the NREL reports it rests on. It was written from
+//! those papers alone, as an independent second program against which the proved code is tested.
+//!
+//! Units throughout, unless a comment says otherwise:
+//!
+//! * angles: 10⁻⁸ degree; *reduced* means 0 to 35,999,999,999 by whole turns;
+//! * sines and cosines, and vectors made of them: times 10⁹;
+//! * time: tenths of a second; UT and TT count from 2000-01-01 12:00;
+//! * a point's longitude and latitude: 10⁻⁷ degree, longitude east positive; its height: metres;
+//! * azimuth: from north over east.
+//!
+//! Every division is a floor, also below zero.
+
+pub mod batch;
+pub mod calendar;
+pub mod heading;
+pub mod instant;
+pub mod moon;
+pub mod numbers;
+pub mod nutation;
+pub mod place;
+pub mod refraction;
+pub mod request;
+pub mod sheet;
+pub mod sidereal;
+pub mod sun;
+pub mod tables;
+
+pub use batch::batch;
+pub use calendar::day_count;
+pub use heading::middle;
+pub use moon::{moon, Moon};
+pub use numbers::{arctangent, cosine, root, sine};
+pub use nutation::{nutation, Nutation};
+pub use place::{place, shown_place, Place, Shown};
+pub use refraction::refraction;
+pub use request::{Air, Body, Point, Start};
+pub use sheet::{sheet, sheet_line};
+pub use sidereal::mean_sidereal;
+pub use sun::{sun, Sun};

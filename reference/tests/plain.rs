@@ -1,0 +1,337 @@
+//! The rules once more without any shortcut, in 128 bits and from the repository's comma-separated tables, held
+//! against the library over many instants and requests. These tests run with overflow checks.
+
+use std::collections::HashMap;
+use std::fs;
+use std::path::Path;
+
+use raddlehue_reference::instant::{Instant, Time};
+use raddlehue_reference::moon::arguments;
+use raddlehue_reference::tables::{ARCTANGENT, SINE};
+use raddlehue_reference::*;
+
+const TURN: i128 = 36_000_000_000;
+const BILLION: i128 = 1_000_000_000;
+const CENTURY: i128 = 31_557_600_000;
+const MILLENNIUM: i128 = 315_576_000_000;
+
+/// First and last accepted TT.
+const FIRST_TT: i64 = -31_557_248_009;
+const LAST_TT: i64 = 31_872_608_008;
+
+fn floor(a: i128, b: i128) -> i128 {
+    a.div_euclid(b)
+}
+
+fn plain_sine(angle: i128) -> i128 {
+    let x = angle.rem_euclid(TURN);
+    if x >= TURN / 2 {
+        return -plain_sine(x - TURN / 2);
+    }
+    let x = if x > TURN / 4 { TURN / 2 - x } else { x };
+    let (k, h) = ((x / 25_000_000) as usize, x % 25_000_000);
+    let r = floor(1_745_329_252 * h, 10 * BILLION);
+    let q = floor(r * r, BILLION);
+    let ch = BILLION - floor(r * r, 2 * BILLION);
+    let sh = r - floor(q * r, 6 * BILLION);
+    floor(i128::from(SINE[k]) * ch + i128::from(SINE[360 - k]) * sh, BILLION)
+}
+
+fn plain_cosine(angle: i128) -> i128 {
+    plain_sine(angle + TURN / 4)
+}
+
+fn plain_arctangent(y: i128, x: i128) -> i128 {
+    if (y, x) == (0, 0) {
+        return 0;
+    }
+    let (mut y, mut x, mut angle) = if x < 0 { (-1024 * y, -1024 * x, TURN / 2) } else { (1024 * y, 1024 * x, 0) };
+    for (k, &t) in ARCTANGENT.iter().enumerate() {
+        let (across, along) = (floor(y, 1 << k), floor(x, 1 << k));
+        match y.signum() {
+            1 => (x, y, angle) = (x + across, y - along, angle + i128::from(t)),
+            -1 => (x, y, angle) = (x - across, y + along, angle - i128::from(t)),
+            _ => {}
+        }
+    }
+    angle.rem_euclid(TURN)
+}
+
+/// The rows of a table: the first cell as it stands, and all cells that are whole numbers.
+fn table(name: &str) -> Vec<(String, Vec<i128>)> {
+    let path = Path::new(env!("CARGO_MANIFEST_DIR")).join("../tests/tables").join(name);
+    let text = fs::read_to_string(path).expect("the tables are in the repository");
+    let cells = |line: &str| line.split(',').filter_map(|cell| cell.parse().ok()).collect();
+    text.lines().skip(1).map(|line| (line.split(',').next().unwrap().to_string(), cells(line))).collect()
+}
+
+struct Plain {
+    polynomials: HashMap<String, Vec<i128>>,
+    moon_longitude: Vec<(String, Vec<i128>)>,
+    moon_latitude: Vec<(String, Vec<i128>)>,
+    nutation: Vec<(String, Vec<i128>)>,
+    sun: Vec<(String, Vec<i128>)>,
+}
+
+impl Plain {
+    fn new() -> Self {
+        Self {
+            polynomials: table("polynomials.csv").into_iter().collect(),
+            moon_longitude: table("moon_longitude_distance.csv"),
+            moon_latitude: table("moon_latitude.csv"),
+            nutation: table("nutation.csv"),
+            sun: table("sun.csv"),
+        }
+    }
+
+    fn polynomial(&self, name: &str, n: i128) -> i128 {
+        let [_, p2, p3, p4] = powers(n);
+        let [c0, c1, c2, sign3, k3, sign4, k4] = self.polynomials[name][..] else { panic!("seven numbers") };
+        let cubic = floor(sign3 * 100 * p3, k3) + floor(sign4 * 100 * p4, k4);
+        (c0 + floor(c1 * n, CENTURY) + floor(c2 * p2, 1_000_000) + cubic).rem_euclid(TURN)
+    }
+
+    fn moon(&self, n: i128) -> [i128; 3] {
+        let [u, p2, _, _] = powers(n);
+        let at = |name| self.polynomial(name, n);
+        let (mean, m_prime, f) = (at("Lp"), at("Mp"), at("F"));
+        let base = [at("D"), at("M"), m_prime, f];
+        let e = 1_000_000 + floor(-2516 * u, 1_000_000) + floor(-74 * p2, 10_000_000);
+        let e2 = floor(e * e, 1_000_000);
+        let weight = |m: i128, l: i128| match m.abs() {
+            0 => 100 * l,
+            1 => floor(l * e, 10_000),
+            _ => floor(l * e2, 10_000),
+        };
+        let angle = |row: &[i128]| row.iter().zip(base).map(|(multiple, x)| multiple * x).sum::<i128>();
+        let (mut along, mut up, mut out) = (0, 0, 0);
+        for (_, row) in &self.moon_longitude {
+            along += weight(row[1], row[4]) * plain_sine(angle(&row[..4]));
+            out += weight(row[1], row[5]) * plain_cosine(angle(&row[..4]));
+        }
+        for (_, row) in &self.moon_latitude {
+            up += weight(row[1], row[4]) * plain_sine(angle(&row[..4]));
+        }
+        let (a1, a2, a3) = (at("A1"), at("A2"), at("A3"));
+        for (added, angle) in [(3958, a1), (1962, mean - f), (318, a2)] {
+            along += 100 * added * plain_sine(angle);
+        }
+        let additions =
+            [(-2235, mean), (382, a3), (175, a1 - f), (175, a1 + f), (127, mean - m_prime), (-115, mean + m_prime)];
+        for (added, angle) in additions {
+            up += 100 * added * plain_sine(angle);
+        }
+        let longitude = (mean + floor(along, BILLION)).rem_euclid(TURN);
+        [longitude, floor(up, BILLION), 385_000_560 + floor(out, 100 * BILLION)]
+    }
+
+    fn sun_group(&self, name: &str, n: i128) -> i128 {
+        let rows = self.sun.iter().filter(|(group, _)| group == name);
+        rows.map(|(_, row)| {
+            let radians = (row[1] + floor(row[2] * n, MILLENNIUM)).rem_euclid(628_318_531);
+            floor(row[0] * plain_cosine(floor(radians * 5_729_577_951, 100_000_000)), 10_000_000)
+        })
+        .sum()
+    }
+
+    fn sun_series(&self, letter: &str, highest: usize, n: i128) -> i128 {
+        let u = powers(n)[0];
+        let mut v = self.sun_group(&format!("{letter}{highest}"), n);
+        for i in (0..highest).rev() {
+            let carried = if i == 0 { floor(v * n, MILLENNIUM) } else { floor(v * u, 10_000_000) };
+            v = self.sun_group(&format!("{letter}{i}"), n) + carried;
+        }
+        v
+    }
+
+    fn sun(&self, n: i128) -> [i128; 3] {
+        [self.sun_series("L", 5, n), self.sun_series("B", 1, n), self.sun_series("R", 4, n)]
+    }
+
+    fn nutation(&self, n: i128) -> [i128; 3] {
+        let [u, p2, p3, _] = powers(n);
+        let base = ["X0", "X1", "X2", "X3", "X4"].map(|name| self.polynomial(name, n));
+        let (mut by_sine, mut by_cosine) = (0, 0);
+        for (_, row) in &self.nutation {
+            let angle: i128 = row.iter().zip(base).map(|(multiple, x)| multiple * x).sum();
+            by_sine += (10 * row[5] + floor(row[6] * u, 1_000_000)) * plain_sine(angle);
+            by_cosine += (10 * row[7] + floor(row[8] * u, 1_000_000)) * plain_cosine(angle);
+        }
+        let psi = floor(25 * by_sine, 90 * BILLION);
+        let epsilon = floor(25 * by_cosine, 90 * BILLION);
+        let mean = floor(84_381_448 * 250, 9)
+            + floor(-468_093 * u, 360_000)
+            + floor(-155 * p2, 36_000_000)
+            + floor(199_925 * p3, 3_600_000_000);
+        [psi, epsilon, mean + epsilon]
+    }
+
+    fn place(&self, body: Body, instant: &Instant, point: &Point) -> [i128; 2] {
+        let (ut, tt) = (i128::from(instant.ut), i128::from(instant.tt));
+        let times = |a: i128, b: i128| floor(a * b, BILLION);
+        let [psi, _, epsilon] = self.nutation(tt);
+        let (l, t, p) = match body {
+            Body::Moon => {
+                let [longitude, latitude, metres] = self.moon(tt);
+                (longitude + psi, latitude, floor(6_378_140 * BILLION, metres))
+            }
+            Body::Sun => {
+                let [l, b, r] = self.sun(tt);
+                let l = floor(l.rem_euclid(62_831_853_072) * 5_729_577_951, 10 * BILLION);
+                let b = floor(b * 5_729_577_951, 10 * BILLION);
+                let aberration = floor(-569_161 * 10 * BILLION, r);
+                (l + TURN / 2 + psi + aberration, -b, floor(42_635 * 10 * BILLION, r))
+            }
+        };
+        let cos_t = plain_cosine(t);
+        let (x, y0, z0) = (times(cos_t, plain_cosine(l)), times(cos_t, plain_sine(l)), plain_sine(t));
+        let (cos_e, sin_e) = (plain_cosine(epsilon), plain_sine(epsilon));
+        let (y, z) = (times(y0, cos_e) - times(z0, sin_e), times(y0, sin_e) + times(z0, cos_e));
+        let theta = plain_sidereal(ut) + times(psi, cos_e) + 10 * i128::from(point.longitude);
+        let (cos_h, sin_h) = (plain_cosine(theta), plain_sine(theta));
+        let (a, b) = (times(x, cos_h) + times(y, sin_h), times(y, cos_h) - times(x, sin_h));
+        let phi = 10 * i128::from(point.latitude);
+        let (cos_p, sin_p, height) = (plain_cosine(phi), plain_sine(phi), i128::from(point.height));
+        let w = plain_arctangent(floor(99_664_719 * sin_p, 100_000_000), cos_p);
+        let f = plain_cosine(w) + floor(height * cos_p, 6_378_140);
+        let g = floor(99_664_719 * plain_sine(w), 100_000_000) + floor(height * sin_p, 6_378_140);
+        let (a, z) = (a - times(p, f), z - times(p, g));
+        let up = times(a, cos_p) + times(z, sin_p);
+        let north = times(z, cos_p) - times(a, sin_p);
+        let level = (north * north + b * b).isqrt();
+        let elevation = plain_arctangent(up, level);
+        let elevation = if elevation >= TURN / 2 { elevation - TURN } else { elevation };
+        [plain_arctangent(b, north), elevation.clamp(-TURN / 4, TURN / 4)]
+    }
+}
+
+fn plain_sidereal(ut: i128) -> i128 {
+    let [_, p2, p3, _] = powers(ut);
+    let days = floor(36_098_564_736_629 * ut, 864_000_000);
+    (28_046_061_837 + days + floor(387_933 * p2, 10_000_000) + floor(-100 * p3, 38_710_000)).rem_euclid(TURN)
+}
+
+/// u, p2, p3, p4.
+fn powers(n: i128) -> [i128; 4] {
+    let u = floor(1_000_000 * n, CENTURY);
+    let p2 = floor(u * u, 1_000_000);
+    [u, p2, floor(p2 * u, 1_000_000), floor(p2 * p2, 1_000_000)]
+}
+
+/// A generator of whole numbers between two bounds, both included.
+struct Random(u64);
+
+impl Random {
+    fn within(&mut self, first: i64, last: i64) -> i64 {
+        self.0 ^= self.0 << 13;
+        self.0 ^= self.0 >> 7;
+        self.0 ^= self.0 << 17;
+        first + (self.0 % (last - first + 1) as u64) as i64
+    }
+
+    /// One of the bounds a third of the time.
+    fn edgy(&mut self, first: i64, last: i64) -> i64 {
+        match self.within(0, 5) {
+            0 => first,
+            1 => last,
+            _ => self.within(first, last),
+        }
+    }
+
+    fn start(&mut self) -> Start {
+        let (year, month) = (self.edgy(1900, 2100), self.edgy(1, 12));
+        let last_day = (28..=31).rev().find(|&day| day_count(year, month, day).is_ok()).unwrap();
+        Start {
+            year,
+            month,
+            day: self.edgy(1, last_day),
+            hour: self.edgy(0, 23),
+            minute: self.edgy(0, 59),
+            second: self.edgy(0, 59),
+            tenth: self.edgy(0, 9),
+            ut1: self.edgy(-9, 9),
+            delta_t: self.edgy(-80_000, 80_000),
+        }
+    }
+
+    fn point(&mut self) -> Point {
+        Point {
+            longitude: self.edgy(-1_800_000_000, 1_800_000_000),
+            latitude: self.edgy(-900_000_000, 900_000_000),
+            height: self.edgy(-500, 9_000),
+        }
+    }
+}
+
+#[test]
+fn sums() {
+    let plain = Plain::new();
+    let mut random = Random(41);
+    let instants = (0..1_500).map(|_| random.edgy(FIRST_TT, LAST_TT));
+    for n in instants.chain([-1, 0, 1]) {
+        let wide = i128::from(n);
+        let Moon { longitude, latitude, metres } = moon(n);
+        assert_eq!([longitude, latitude, metres].map(i128::from), plain.moon(wide), "moon at {n}");
+        let Sun { longitude, latitude, radius } = sun(n);
+        assert_eq!([longitude, latitude, radius].map(i128::from), plain.sun(wide), "sun at {n}");
+        let Nutation { longitude, obliquity, true_obliquity } = nutation(n);
+        let got = [longitude, obliquity, true_obliquity].map(i128::from);
+        assert_eq!(got, plain.nutation(wide), "nutation at {n}");
+    }
+}
+
+#[test]
+fn sidereal_times_and_arguments() {
+    let plain = Plain::new();
+    let mut random = Random(53);
+    for _ in 0..100_000 {
+        let n = random.edgy(FIRST_TT, LAST_TT);
+        assert_eq!(i128::from(mean_sidereal(n)), plain_sidereal(n.into()), "sidereal at {n}");
+    }
+    for _ in 0..5_000 {
+        let n = random.edgy(FIRST_TT, LAST_TT);
+        let expected = ["Lp", "D", "M", "Mp", "F"].map(|name| plain.polynomial(name, n.into()));
+        assert_eq!(arguments(&Time::new(n)).map(i128::from), expected, "arguments at {n}");
+    }
+}
+
+#[test]
+fn places() {
+    let plain = Plain::new();
+    let mut random = Random(43);
+    let (mut first, mut last) = (0, 0);
+    for _ in 0..1_500 {
+        let (start, point) = (random.start(), random.point());
+        let instant = Instant::new(&start).unwrap();
+        (first, last) = (instant.tt.min(first), instant.tt.max(last));
+        for body in [Body::Sun, Body::Moon] {
+            let got = place(start, body, point, Air::None).unwrap();
+            let expected = plain.place(body, &instant, &point);
+            assert_eq!([got.azimuth, got.elevation].map(i128::from), expected, "{body:?} {start:?} {point:?}");
+        }
+    }
+    assert!(FIRST_TT <= first && last <= LAST_TT);
+}
+
+#[test]
+fn sines_and_arctangents() {
+    let mut random = Random(47);
+    for _ in 0..300_000 {
+        let angle = random.within(-80_000_000_000, 80_000_000_000);
+        assert_eq!(i128::from(sine(angle)), plain_sine(angle.into()), "{angle}");
+        assert_eq!(i128::from(cosine(angle)), plain_cosine(angle.into()), "{angle}");
+    }
+    for shift in 0..62 {
+        let bound = i64::MAX >> shift;
+        for _ in 0..300 {
+            let (y, x) = (random.edgy(-bound / 2, bound / 2), random.edgy(-bound / 2, bound / 2));
+            assert_eq!(i128::from(arctangent(y, x)), plain_arctangent(y.into(), x.into()), "{y} {x}");
+        }
+    }
+    for whole_quarters in -2_000..2_000 {
+        for near in -2..=2 {
+            let angle = 25_000_000 * whole_quarters + near;
+            assert_eq!(i128::from(sine(angle)), plain_sine(angle.into()), "{angle}");
+        }
+    }
+}

@@ -1,0 +1,188 @@
+//! Every line of the repository's vectors, to the last unit and the last bit.
+
+use std::collections::BTreeMap;
+use std::fs;
+use std::path::Path;
+
+use raddlehue_reference::*;
+
+/// Checks every line of a file, and gives the count of lines of each kind.
+fn check_file(name: &str) -> BTreeMap<String, usize> {
+    let path = Path::new(env!("CARGO_MANIFEST_DIR")).join("../tests/vectors").join(name);
+    let text = fs::read_to_string(path).expect("the vectors are in the repository");
+    let mut counts = BTreeMap::new();
+    for line in text.lines() {
+        let (kind, rest) = line.split_once(' ').expect("a kind, then its numbers");
+        let (input, answer) = rest.split_once('|').expect("a question and an answer");
+        match kind {
+            "sums" => check_sums(input, answer),
+            "sun" | "moon" => check_place(body(kind), input, answer),
+            "sine" => check_sine(input, answer),
+            "atan" => check_arctangent(input, answer),
+            "root" => check_root(input, answer),
+            "middle" => check_middle(input, answer),
+            "refr" => check_refraction(input, answer),
+            "sheet" => check_sheet(input, answer),
+            "batch" => check_batch(input, answer),
+            other => panic!("unknown kind {other}"),
+        }
+        *counts.entry(kind.to_string()).or_insert(0) += 1;
+    }
+    counts
+}
+
+fn counted(kinds: &[(&str, usize)]) -> BTreeMap<String, usize> {
+    kinds.iter().map(|&(kind, count)| (kind.to_string(), count)).collect()
+}
+
+#[test]
+fn places() {
+    assert_eq!(check_file("places.txt"), counted(&[("moon", 125), ("sums", 65), ("sun", 115)]));
+}
+
+#[test]
+fn leaves() {
+    let expected = [
+        ("atan", 240),
+        ("batch", 6),
+        ("middle", 240),
+        ("moon", 2),
+        ("refr", 240),
+        ("root", 240),
+        ("sheet", 24),
+        ("sine", 480),
+        ("sun", 4),
+    ];
+    assert_eq!(check_file("leaves.txt"), counted(&expected));
+}
+
+fn body(word: &str) -> Body {
+    match word {
+        "sun" => Body::Sun,
+        "moon" => Body::Moon,
+        other => panic!("unknown body {other}"),
+    }
+}
+
+fn whole(word: &str) -> i64 {
+    word.parse().unwrap_or_else(|_| panic!("not a whole number: {word}"))
+}
+
+fn wholes(text: &str) -> Vec<i64> {
+    text.split_whitespace().map(whole).collect()
+}
+
+fn exactly<const N: usize>(text: &str) -> [i64; N] {
+    wholes(text).try_into().unwrap_or_else(|_| panic!("not {N} numbers: {text}"))
+}
+
+fn double(word: &str) -> f64 {
+    assert_eq!(word.len(), 16);
+    f64::from_bits(u64::from_str_radix(word, 16).expect("hex digits"))
+}
+
+fn bytes(hex: &str) -> Vec<u8> {
+    assert_eq!(hex.len() % 2, 0);
+    (0..hex.len()).step_by(2).map(|at| u8::from_str_radix(&hex[at..at + 2], 16).expect("hex digits")).collect()
+}
+
+fn air(words: &[&str]) -> Air {
+    match *words {
+        ["none"] => Air::None,
+        ["standard"] => Air::Standard,
+        ["measured", pressure, temperature] => Air::Measured(double(pressure), double(temperature)),
+        _ => panic!("unknown air {words:?}"),
+    }
+}
+
+/// A start and a point from twelve numbers.
+fn start_and_point(words: &[&str]) -> (Start, Point) {
+    let numbers: Vec<i64> = words.iter().map(|word| whole(word)).collect();
+    let [year, month, day, hour, minute, second, tenth, ut1, delta_t, longitude, latitude, height] = numbers[..] else {
+        panic!("not twelve numbers: {words:?}");
+    };
+    let start = Start { year, month, day, hour, minute, second, tenth, ut1, delta_t };
+    (start, Point { longitude, latitude, height })
+}
+
+fn check_sums(input: &str, answer: &str) {
+    let [tt] = exactly(input);
+    let [longitude, latitude, metres, l, b, r, psi, epsilon, obliquity, sidereal] = exactly(&answer.replace('|', " "));
+    assert_eq!(moon(tt), Moon { longitude, latitude, metres }, "moon at {tt}");
+    assert_eq!(sun(tt), Sun { longitude: l, latitude: b, radius: r }, "sun at {tt}");
+    let expected = Nutation { longitude: psi, obliquity: epsilon, true_obliquity: obliquity };
+    assert_eq!(nutation(tt), expected, "nutation at {tt}");
+    assert_eq!(mean_sidereal(tt), sidereal, "sidereal at {tt}");
+}
+
+fn check_place(body: Body, input: &str, answer: &str) {
+    let words: Vec<&str> = input.split_whitespace().collect();
+    let (start, point) = start_and_point(&words[..12]);
+    let air = air(&words[12..]);
+    let answer: Vec<&str> = answer.split_whitespace().collect();
+    let [refusal, azimuth, elevation, shown @ ..] = &answer[..] else { panic!("too short: {answer:?}") };
+
+    let got = match place(start, body, point, air) {
+        Ok(place) => [0, place.azimuth, place.elevation],
+        Err(number) => [number.into(), 0, 0],
+    };
+    assert_eq!(got, [whole(refusal), whole(azimuth), whole(elevation)], "{body:?}{input}");
+
+    let (number, got) = match shown_place(start, body, point, air) {
+        Ok(shown) => (0, [shown.azimuth, shown.elevation, shown.refraction]),
+        Err(number) => (number.into(), [0.0; 3]),
+    };
+    assert_eq!(number, whole(refusal), "{body:?}{input}");
+    assert_eq!(got.map(|value| format!("{:016x}", value.to_bits())).as_slice(), shown, "{body:?}{input}");
+}
+
+fn check_sine(input: &str, answer: &str) {
+    let [angle] = exactly(input);
+    assert_eq!([sine(angle), cosine(angle)], exactly(answer), "sine and cosine of {angle}");
+}
+
+fn check_arctangent(input: &str, answer: &str) {
+    let [y, x] = exactly(input);
+    assert_eq!([arctangent(y, x)], exactly(answer), "arctangent of {y}, {x}");
+}
+
+fn check_root(input: &str, answer: &str) {
+    let n = input.trim().parse().expect("a number from 0 up");
+    assert_eq!(root(n), answer.trim().parse().expect("a number from 0 up"), "root of {n}");
+}
+
+fn check_middle(input: &str, answer: &str) {
+    let [a, b] = exactly(input);
+    let got = match middle(a, b) {
+        Ok(azimuth) => [0, azimuth],
+        Err(number) => [number.into(), 0],
+    };
+    assert_eq!(got, exactly(answer), "middle of {a}, {b}");
+}
+
+fn check_refraction(input: &str, answer: &str) {
+    let words: Vec<&str> = input.split_whitespace().collect();
+    let got = refraction(whole(words[0]), air(&words[1..]));
+    assert_eq!(got.to_bits(), double(answer.trim()).to_bits(), "refraction at {input}");
+}
+
+fn check_sheet(input: &str, answer: &str) {
+    let input = bytes(input.trim());
+    let expected = String::from_utf8(bytes(answer.trim())).expect("text");
+    assert_eq!(sheet(&input), expected);
+}
+
+fn check_batch(input: &str, answer: &str) {
+    let (request, offsets) = input.split_once(';').expect("a request and offsets");
+    let words: Vec<&str> = request.split_whitespace().collect();
+    let (start, point) = start_and_point(&words[1..13]);
+    let offsets: Vec<u32> = wholes(offsets).into_iter().map(|offset| offset.try_into().expect("an offset")).collect();
+    let mut azimuths = vec![-7; words[13].parse().expect("a length")];
+    let mut elevations = vec![-8; words[14].parse().expect("a length")];
+    let [refusal, index, count] = match batch(start, body(words[0]), point, &offsets, &mut azimuths, &mut elevations) {
+        Ok(count) => [0, 0, count],
+        Err((number, index)) => [number.into(), index, 0],
+    };
+    let parts: Vec<Vec<i64>> = answer.split(';').map(wholes).collect();
+    assert_eq!(parts, [vec![refusal as i64, index as i64, count as i64], azimuths, elevations], "batch{input}");
+}
