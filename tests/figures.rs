@@ -1,0 +1,197 @@
+// How long each call takes through the archive, beside the ordinary Rust version (reference/) in the same run.
+//
+//     figures                  a row for each call: nanoseconds of both, and their ratio
+//     figures SIDE CALL COUNT  so many calls of one side and nothing else, to be counted by callgrind
+use std::env;
+use std::hint::black_box;
+use std::time::Instant;
+
+use raddlehue_reference as reference;
+
+mod archive;
+use archive::*;
+
+const POINT: Point = Point { longitude: -1_051_786_000, latitude: 397_424_760, height: 1830 };
+const AIR: GivenAir = GivenAir { kind: 2, pressure: 820.0, temperature: 11.0 };
+
+// A different minute of a different day for each call.
+fn numbers(call: u64) -> [i64; 9] {
+    let [year, month, day] = [1900 + call % 201, 1 + call % 12, 1 + call % 28];
+    [year, month, day, call * 7 % 24, call * 13 % 60, call * 17 % 60, 0, 0, 670].map(|number| number as i64)
+}
+
+fn start(call: u64) -> Start {
+    let [year, month, day, hour, minute, second, fraction, ut1, delta] = numbers(call);
+    Start { year, month, day, hour, minute, second, fraction, ut1, delta }
+}
+
+fn reference_start(call: u64) -> reference::Start {
+    let [year, month, day, hour, minute, second, tenth, ut1, delta_t] = numbers(call);
+    reference::Start { year, month, day, hour, minute, second, tenth, ut1, delta_t }
+}
+
+fn reference_point() -> reference::Point {
+    reference::Point { longitude: POINT.longitude, latitude: POINT.latitude, height: POINT.height }
+}
+
+fn reference_air() -> reference::Air {
+    reference::Air::Measured(AIR.pressure, AIR.temperature)
+}
+
+fn reference_body(body: u32) -> reference::Body {
+    if body == 0 {
+        reference::Body::Sun
+    } else {
+        reference::Body::Moon
+    }
+}
+
+fn place(body: u32, call: u64) -> i64 {
+    let place = unsafe { raddlehue_place(start(call), body, POINT, AIR) };
+    place.azimuth ^ place.elevation
+}
+
+fn reference_place(body: u32, call: u64) -> i64 {
+    let place = reference::place(reference_start(call), reference_body(body), reference_point(), reference_air());
+    place.map_or(0, |place| place.azimuth ^ place.elevation)
+}
+
+fn shown(body: u32, call: u64) -> i64 {
+    let shown = unsafe { raddlehue_shown_place(start(call), body, POINT, AIR) };
+    (shown.azimuth.to_bits() ^ shown.elevation.to_bits()) as i64
+}
+
+fn reference_shown(body: u32, call: u64) -> i64 {
+    let shown = reference::shown_place(reference_start(call), reference_body(body), reference_point(), reference_air());
+    shown.map_or(0, |shown| (shown.azimuth.to_bits() ^ shown.elevation.to_bits()) as i64)
+}
+
+const MINUTES: usize = 1440;
+
+fn offsets() -> Vec<u32> {
+    (0..MINUTES as u32).map(|minute| minute * 600).collect()
+}
+
+fn day(body: u32, call: u64) -> i64 {
+    let offsets = offsets();
+    let (mut azimuths, mut elevations) = (vec![0; MINUTES], vec![0; MINUTES]);
+    let at = Start { hour: 0, minute: 0, second: 0, ..start(call) };
+    unsafe {
+        raddlehue_batch(
+            at, body, POINT, offsets.as_ptr(), MINUTES, azimuths.as_mut_ptr(), MINUTES, elevations.as_mut_ptr(), MINUTES,
+        )
+    };
+    azimuths.iter().chain(&elevations).fold(0, |sum, entry| sum ^ entry)
+}
+
+fn reference_day(body: u32, call: u64) -> i64 {
+    let (mut azimuths, mut elevations) = (vec![0; MINUTES], vec![0; MINUTES]);
+    let at = reference::Start { hour: 0, minute: 0, second: 0, ..reference_start(call) };
+    let _ = reference::batch(at, reference_body(body), reference_point(), &offsets(), &mut azimuths, &mut elevations);
+    azimuths.iter().chain(&elevations).fold(0, |sum, entry| sum ^ entry)
+}
+
+fn instant(call: u64) -> i64 {
+    (call * 1_000_003 % 63_000_000_000) as i64 - 31_500_000_000
+}
+
+fn angle(call: u64) -> i64 {
+    (call * 7_000_003) as i64 % 36_000_000_000
+}
+
+struct Call {
+    name: &'static str,
+    places: u64,
+    ours: fn(u64) -> i64,
+    reference: fn(u64) -> i64,
+}
+
+const CALLS: [Call; 13] = [
+    Call { name: "place of the Sun", places: 1, ours: |call| place(0, call), reference: |call| reference_place(0, call) },
+    Call { name: "place of the Moon", places: 1, ours: |call| place(1, call), reference: |call| reference_place(1, call) },
+    Call { name: "shown place of the Sun", places: 1, ours: |call| shown(0, call), reference: |call| reference_shown(0, call) },
+    Call { name: "shown place of the Moon", places: 1, ours: |call| shown(1, call), reference: |call| reference_shown(1, call) },
+    Call { name: "a day's minutes of the Sun, each", places: 1440, ours: |call| day(0, call), reference: |call| reference_day(0, call) },
+    Call { name: "a day's minutes of the Moon, each", places: 1440, ours: |call| day(1, call), reference: |call| reference_day(1, call) },
+    Call {
+        name: "sums of the Sun",
+        places: 1,
+        ours: |call| unsafe { raddlehue_sun_sums(instant(call)) }.longitude,
+        reference: |call| reference::sun(instant(call)).longitude,
+    },
+    Call {
+        name: "sums of the Moon",
+        places: 1,
+        ours: |call| unsafe { raddlehue_moon_sums(instant(call)) }.metres,
+        reference: |call| reference::moon(instant(call)).metres,
+    },
+    Call {
+        name: "nutation",
+        places: 1,
+        ours: |call| unsafe { raddlehue_nutation(instant(call)) }.true_obliquity,
+        reference: |call| reference::nutation(instant(call)).true_obliquity,
+    },
+    Call {
+        name: "sine",
+        places: 1,
+        ours: |call| unsafe { raddlehue_sine(angle(call)) },
+        reference: |call| reference::sine(angle(call)),
+    },
+    Call {
+        name: "arctangent",
+        places: 1,
+        ours: |call| unsafe { raddlehue_arctangent(angle(call) - 18_000_000_000, angle(call + 1)) } as i64,
+        reference: |call| reference::arctangent(angle(call) - 18_000_000_000, angle(call + 1)),
+    },
+    Call {
+        name: "root",
+        places: 1,
+        ours: |call| unsafe { raddlehue_root(call.wrapping_mul(0x9e37_79b9_7f4a_7c15)) } as i64,
+        reference: |call| reference::root(call.wrapping_mul(0x9e37_79b9_7f4a_7c15)) as i64,
+    },
+    Call {
+        name: "middle of two azimuths",
+        places: 1,
+        ours: |call| unsafe { raddlehue_middle(angle(call), angle(call + 1)) }.azimuth,
+        reference: |call| reference::middle(angle(call), angle(call + 1)).unwrap_or(0),
+    },
+];
+
+// Nanoseconds of one call, the best of many short runs: what else the machine does only adds to a run.
+fn nanoseconds(call: fn(u64) -> i64, places: u64) -> f64 {
+    let turns = 1 + 400 / places;
+    let mut best = f64::INFINITY;
+    for run in 0..60 {
+        let begun = Instant::now();
+        for turn in 0..turns {
+            black_box(call(black_box(run * turns + turn)));
+        }
+        best = best.min(begun.elapsed().as_nanos() as f64 / (turns * places) as f64);
+    }
+    best
+}
+
+fn table() {
+    println!("| Call | archive, ns | ordinary Rust, ns | ratio |");
+    println!("|---|---:|---:|---:|");
+    for call in CALLS {
+        for turn in 0..50 {
+            assert_eq!((call.ours)(turn), (call.reference)(turn), "{} {turn}", call.name);
+        }
+        let ours = nanoseconds(call.ours, call.places);
+        let reference = nanoseconds(call.reference, call.places);
+        println!("| {} | {ours:.0} | {reference:.0} | {:.2} |", call.name, ours / reference);
+    }
+}
+
+fn main() {
+    let words: Vec<String> = env::args().skip(1).collect();
+    let [side, at, count] = &words[..] else {
+        return table();
+    };
+    let call = &CALLS[at.parse::<usize>().expect("the number of a call")];
+    let side = if side == "archive" { call.ours } else { call.reference };
+    for turn in 0..count.parse::<u64>().expect("a count") {
+        black_box(side(black_box(turn)));
+    }
+}
