@@ -7,12 +7,12 @@ use Prim.Native.Nat.{_<_, _≤_, ℕ}
 use native.Mathlib.Nat.{not-suc-le-zero}
 use native.Mathlib.Omega.{arith}
 use lib.Dec.{eqb, leb}
-use lib.ListN.{length, length-append, take}
+use lib.ListN.{length, length-append}
 use lib.Seq.{length-take-le, take-all, take-append-le, take-at}
 use borrow.Author.Tests.{eq-eqb, leb-false, leb-true, lt-leb, ne-eqb}
 use Rattle.text.specs.Line.{sheet-numbers}
 use Rattle.sky.specs.Sheet.{newline, sheet-line, sheet-row, row-from, row-line}
-use Rattle.lines.specs.Lines.{Answered, Ended, Stepped, answers, held, kept, last-answer, left, line-after, printed-at}
+use Rattle.lines.specs.Lines.{Answered, Stepped, answers, kept, last-answer, left, line-after, printed-at}
 use Rattle.lines.specs.declared.answers.Turn.{Turn}
 use Rattle.lines.specs.declared.line.Line.{Line}
 
