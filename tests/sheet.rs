@@ -1,9 +1,9 @@
 // The argument sheet, as a program: every sheet of tests/vectors/leaves.txt, and lines of every form that is refused or accepted.
 use std::env;
 use std::fs;
-use std::io::Write;
-use std::process::{Command, Stdio};
-use std::thread;
+
+mod program;
+use program::printed;
 
 const HEADER: &str = "TT LPRIME GMST\n";
 const LINE: &str = "2000 1 2 12 0 0 0 0 0";
@@ -11,19 +11,6 @@ const ANSWER: &str = "864000 23149284417 28144626573\n";
 
 fn bytes(hex: &str) -> Vec<u8> {
     (0..hex.len()).step_by(2).map(|at| u8::from_str_radix(&hex[at..at + 2], 16).unwrap()).collect()
-}
-
-// What the program prints; the input is written while the output is read, so that neither waits for the other.
-fn printed(program: &str, input: &[u8]) -> String {
-    let mut child =
-        Command::new(program).stdin(Stdio::piped()).stdout(Stdio::piped()).spawn().unwrap();
-    let mut stdin = child.stdin.take().unwrap();
-    let input = input.to_vec();
-    let writer = thread::spawn(move || stdin.write_all(&input).unwrap());
-    let output = child.wait_with_output().unwrap();
-    writer.join().unwrap();
-    assert!(output.status.success());
-    String::from_utf8(output.stdout).unwrap()
 }
 
 fn vectors(program: &str, path: &str) -> usize {

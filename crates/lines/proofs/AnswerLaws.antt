@@ -1,84 +1,98 @@
--- An input that is read in parts is answered as the whole of it, and 81 bytes of a line are enough.
+-- An input that is read in parts is answered as the whole of it, and 149 bytes of a line are enough.
 use mathlib.Core.Bool.{Bool, cond, false, true}
 use mathlib.Core.List.{List, [], _∷_, _++_, append-assoc, append-nil}
-use mathlib.Core.Option.{none}
+use mathlib.Core.Option.{Option, none}
 use mathlib.Core.Path.{_∙_, _≡_, ap, refl, sym}
 use Prim.Native.Nat.{_<_, _≤_, ℕ}
 use native.Mathlib.Nat.{not-suc-le-zero}
 use native.Mathlib.Omega.{arith}
 use lib.Dec.{eqb, leb}
+use lib.IntN.{ℤ}
 use lib.ListN.{length, length-append}
 use lib.Seq.{length-take-le, take-all, take-append-le, take-at}
-use borrow.Author.Tests.{eq-eqb, leb-false, leb-true, lt-leb, ne-eqb}
-use Rattle.text.specs.Line.{sheet-numbers}
-use Rattle.sky.specs.Sheet.{newline, sheet-line, sheet-row, row-from, row-line}
-use Rattle.lines.specs.Lines.{Answered, Stepped, answers, kept, last-answer, left, line-after, printed-at}
+use borrow.Author.Tests.{eq-eqb, leb-false, leb-true, ne-eqb}
+use Rattle.text.proofs.LineLaws.{too-long-line}
+use Rattle.sky.proofs.PlacesLineLaws.{too-long}
+use Rattle.sky.specs.PlacesLine.{answer-line, no-request, places-line}
+use Rattle.sky.specs.Sheet.{newline, row-from, row-line, sheet-line, sheet-row}
+use Rattle.lines.specs.Lines.{Answered, Stepped, answers, kept, last-answer, left, line-after, line-answer, printed-at}
 use Rattle.lines.specs.declared.answers.Turn.{Turn}
+use Rattle.lines.specs.declared.line.Form.{Form}
+use Rattle.lines.specs.declared.line.Form.the-variants as Forms
 use Rattle.lines.specs.declared.line.Line.{Line}
 
 -- ---- parts
 
-pub answers-parts : (line first rest : List ℕ) → answers line (first ++ rest) ≡ answers line first ++ answers (left line first) rest
+pub answers-parts : (form : Form) (line first rest : List ℕ)
+    → answers form line (first ++ rest) ≡ answers form line first ++ answers form (left line first) rest
 unfolding answers left
-answers-parts line [] rest = refl
-answers-parts line (byte ∷ first) rest =
-    ap (λ (r : List ℕ). printed-at line byte ++ r) (answers-parts (line-after line byte) first rest)
-    ∙ sym (append-assoc (printed-at line byte) (answers (line-after line byte) first) (answers (left (line-after line byte) first) rest))
+answers-parts form line [] rest = refl
+answers-parts form line (byte ∷ first) rest =
+    ap (λ (r : List ℕ). printed-at form line byte ++ r) (answers-parts form (line-after line byte) first rest)
+    ∙ sym (append-assoc (printed-at form line byte) (answers form (line-after line byte) first) (answers form (left (line-after line byte) first) rest))
 
 pub left-parts : (line first rest : List ℕ) → left line (first ++ rest) ≡ left (left line first) rest
 unfolding left
 left-parts line [] rest = refl
 left-parts line (byte ∷ first) rest = left-parts (line-after line byte) first rest
 
-one-byte : (line : List ℕ) (byte : ℕ) → answers line (byte ∷ []) ≡ printed-at line byte
+one-byte : (form : Form) (line : List ℕ) (byte : ℕ) → answers form line (byte ∷ []) ≡ printed-at form line byte
 unfolding answers
-one-byte line byte = append-nil (printed-at line byte)
+one-byte form line byte = append-nil (printed-at form line byte)
 
 one-left : (line : List ℕ) (byte : ℕ) → left line (byte ∷ []) ≡ line-after line byte
 unfolding left
 one-left line byte = refl
 
 -- ---- a newline, and any other byte
-module _ (line : List ℕ) {byte : ℕ} where
-  pub at-newline : byte ≡ newline → (printed-at line byte ≡ sheet-line line) × (line-after line byte ≡ [])
+module _ (form : Form) (line : List ℕ) {byte : ℕ} where
+  pub at-newline : byte ≡ newline → (printed-at form line byte ≡ line-answer form line) × (line-after line byte ≡ [])
   unfolding printed-at line-after
   at-newline e = (simp (eq-eqb byte newline e), simp (eq-eqb byte newline e))
 
-  pub at-other : (byte ≡ newline → ⊥) → (printed-at line byte ≡ []) × (line-after line byte ≡ line ++ byte ∷ [])
+  pub at-other : (byte ≡ newline → ⊥) → (printed-at form line byte ≡ []) × (line-after line byte ≡ line ++ byte ∷ [])
   unfolding printed-at line-after
   at-other isn't = (simp (ne-eqb byte newline isn't), simp (ne-eqb byte newline isn't))
 
--- ---- 81 bytes
+-- ---- 149 bytes
 
 -- what holds of a short line and of a long one
-by-length : (line : List ℕ) {P : Type 0} → (length line ≤ 81 → P) → (81 < length line → P) → P
-by-length line {P} short long = by-test (leb (length line) 81) refl
+by-length : (line : List ℕ) {P : Type 0} → (length line ≤ 149 → P) → (149 < length line → P) → P
+by-length line {P} short long = by-test (leb (length line) 149) refl
   where
-    by-test : (b : Bool) → leb (length line) 81 ≡ b → P
-    by-test true e = short (leb-true (length line) 81 e)
-    by-test false e = long (leb-false (length line) 81 e)
+    by-test : (b : Bool) → leb (length line) 149 ≡ b → P
+    by-test true e = short (leb-true (length line) 149 e)
+    by-test false e = long (leb-false (length line) 149 e)
 
-kept-length : (line : List ℕ) → 81 < length line → length (kept line) ≡ 81
-kept-length line h = length-take-le 81 line (omega arith)
+kept-length : (line : List ℕ) → 149 < length line → length (kept line) ≡ 149
+kept-length line h = length-take-le 149 line (omega arith)
 
-too-long : (line : List ℕ) → 80 < length line → sheet-numbers line ≡ none
-unfolding sheet-numbers
-too-long line h = simp (lt-leb (length line) 80 h)
-
-pub kept-line : (line : List ℕ) → sheet-line (kept line) ≡ sheet-line line
+-- all lines that are too long have the same answer
+long-sheet : (line : List ℕ) → 148 < length line → sheet-line line ≡ row-line (row-from none)
 unfolding sheet-line sheet-row
-kept-line line =
-    by-length line (λ short. ap sheet-line (take-all 81 line short))
-    (λ long. ap (λ (numbers : _). row-line (row-from numbers)) (too-long (kept line) (omega (arith, kept-length line long)) ∙ sym (too-long line (omega arith))))
+long-sheet line h = ap (λ (numbers : Option (List ℤ)). row-line (row-from numbers)) (too-long-line line (omega arith))
 
-kept-printed : (line : List ℕ) (byte : ℕ) → printed-at (kept line) byte ≡ printed-at line byte
+long-places : (line : List ℕ) → 148 < length line → places-line line ≡ answer-line no-request
+unfolding places-line
+long-places line h = ap answer-line (too-long line h)
+
+module _ (line : List ℕ) (long : 149 < length line) where
+  kept-long : (form : Form) → line-answer form (kept line) ≡ line-answer form line
+  unfolding line-answer
+  kept-long Forms.Sheet = long-sheet (kept line) (omega (arith, kept-length line long)) ∙ sym (long-sheet line (omega arith))
+  kept-long Forms.Places = long-places (kept line) (omega (arith, kept-length line long)) ∙ sym (long-places line (omega arith))
+
+kept-line : (form : Form) (line : List ℕ) → line-answer form (kept line) ≡ line-answer form line
+kept-line form line = by-length line (λ short. ap (line-answer form) (take-all 149 line short)) (λ long. kept-long line long form)
+
+kept-printed : (form : Form) (line : List ℕ) (byte : ℕ) → printed-at form (kept line) byte ≡ printed-at form line byte
 unfolding printed-at
-kept-printed line byte = ap (λ (answer : List ℕ). cond (eqb byte newline) answer []) (kept-line line)
+kept-printed form line byte = ap (λ (answer : List ℕ). cond (eqb byte newline) answer []) (kept-line form line)
 
 kept-longer : (line : List ℕ) (byte : ℕ) → kept (kept line ++ byte ∷ []) ≡ kept (line ++ byte ∷ [])
 kept-longer line byte =
-    by-length line (λ short. ap (λ (l : List ℕ). kept (l ++ byte ∷ [])) (take-all 81 line short))
-    (λ long. take-at (kept line) (byte ∷ []) 81 (kept-length line long) ∙ sym (take-append-le 81 line (byte ∷ []) (omega arith)))
+    by-length line (λ short. ap (λ (l : List ℕ). kept (l ++ byte ∷ [])) (take-all 149 line short))
+    (λ long. take-at (kept line) (byte ∷ []) 149 (kept-length line long) ∙ sym (take-append-le 149 line (byte ∷ []) (omega arith)))
 
 kept-after : (line : List ℕ) (byte : ℕ) → kept (line-after (kept line) byte) ≡ kept (line-after line byte)
 unfolding line-after
@@ -88,33 +102,34 @@ kept-after line byte = by-test (eqb byte newline)
     by-test true = refl
     by-test false = kept-longer line byte
 
-pub kept-last : (line : List ℕ) → last-answer (kept line) ≡ last-answer line
-unfolding last-answer
-kept-last [] = refl
-kept-last (byte ∷ rest) = kept-line (byte ∷ rest)
+module _ (form : Form) where
+  pub kept-last : (line : List ℕ) → last-answer form (kept line) ≡ last-answer form line
+  unfolding last-answer
+  kept-last [] = refl
+  kept-last (byte ∷ rest) = kept-line form (byte ∷ rest)
 
-pub some-last : (line : List ℕ) → 0 < length line → sheet-line line ≡ last-answer line
-unfolding last-answer
-some-last [] h = absurd (not-suc-le-zero h)
-some-last (byte ∷ rest) h = refl
+  pub some-last : (line : List ℕ) → 0 < length line → line-answer form line ≡ last-answer form line
+  unfolding last-answer
+  some-last [] h = absurd (not-suc-le-zero h)
+  some-last (byte ∷ rest) h = refl
 
 -- ---- what the program does
 
-pub answered-none : (line : Line) (out : List ℕ) → line .length ≤ 81 → Answered line [] out (record { line = line; used = 0 })
+pub answered-none : (form : Form) (line : Line) (out : List ℕ) → line .length ≤ 149 → Answered form line [] out (record { line = line; used = 0 })
 unfolding answers left
-answered-none line out h = record { line-within = h; used-within = omega arith; printed = λ whole e. refl; line = λ whole e. e }
+answered-none form line out h = record { line-within = h; used-within = omega arith; printed = λ whole e. refl; line = λ whole e. e }
 
-pub answered-more : {before : Line} {chunk entry exit : List ℕ} {turn next : Turn} {byte : ℕ} → Answered before chunk entry turn
-    → Stepped turn byte entry exit next → Answered before (chunk ++ byte ∷ []) exit next
-answered-more {chunk} {byte} a s =
+pub answered-more : {form : Form} {before : Line} {chunk entry exit : List ℕ} {turn next : Turn} {byte : ℕ} → Answered form before chunk entry turn
+    → Stepped form turn byte entry exit next → Answered form before (chunk ++ byte ∷ []) exit next
+answered-more {form} {chunk} {byte} a s =
     record {
       line-within = s .line-within;
       used-within = omega (arith, s .used-within, a .used-within, length-append chunk (byte ∷ []));
       printed =
           λ whole e.
-          s .printed ∙ (λ i. a .printed whole e i ++ printed-at (a .line whole e i) byte)
-          ∙ ap (λ (r : List ℕ). answers whole chunk ++ r) (kept-printed (left whole chunk) byte ∙ sym (one-byte (left whole chunk) byte))
-          ∙ sym (answers-parts whole chunk (byte ∷ []));
+          s .printed ∙ (λ i. a .printed whole e i ++ printed-at form (a .line whole e i) byte)
+          ∙ ap (λ (r : List ℕ). answers form whole chunk ++ r) (kept-printed form (left whole chunk) byte ∙ sym (one-byte form (left whole chunk) byte))
+          ∙ sym (answers-parts form whole chunk (byte ∷ []));
       line =
           λ whole e.
           s .line ∙ ap (λ (l : List ℕ). kept (line-after l byte)) (a .line whole e) ∙ kept-after (left whole chunk) byte

@@ -1,4 +1,4 @@
--- The lines of an input (01, "The argument sheet"), and what is printed for them.
+-- The lines of an input (01, "The argument sheet"), and what is printed for them, by the sheet or by `places`.
 use mathlib.Core.Bool.{cond}
 use mathlib.Core.List.{List, [], _∷_, _++_}
 use mathlib.Core.Path.{_≡_}
@@ -6,60 +6,72 @@ use Prim.Native.Nat.{ℕ, _*_, _+_, _≤_}
 use lib.Dec.{eqb}
 use lib.ListN.{length, take}
 use Rattle.text.specs.Cases.{bytes}
+use Rattle.sky.specs.PlacesLine.{places-line}
 use Rattle.sky.specs.Sheet.{newline, sheet-line}
 use Rattle.lines.specs.declared.answers.Turn.{Turn}
+use Rattle.lines.specs.declared.line.Form.{Form}
+use Rattle.lines.specs.declared.line.Form.the-variants as Forms
 use Rattle.lines.specs.declared.line.Line.{Line}
 
+-- `places` has no header
+unfoldable pub header : Form → List ℕ
+header Forms.Sheet = bytes "TT LPRIME GMST\n"
+header Forms.Places = []
+
+unfoldable pub line-answer : Form → List ℕ → List ℕ
+line-answer Forms.Sheet line = sheet-line line
+line-answer Forms.Places line = places-line line
+
 -- a line ends at a newline: what is printed at a byte, and the line after it
-unfoldable pub printed-at : List ℕ → ℕ → List ℕ
-printed-at line byte = cond (eqb byte newline) (sheet-line line) []
+unfoldable pub printed-at : Form → List ℕ → ℕ → List ℕ
+printed-at form line byte = cond (eqb byte newline) (line-answer form line) []
 
 unfoldable pub line-after : List ℕ → ℕ → List ℕ
 line-after line byte = cond (eqb byte newline) [] (line ++ byte ∷ [])
 
 -- what is printed for the lines that end in a part of the input, and the line after it
-unfoldable pub answers : List ℕ → List ℕ → List ℕ
-answers line [] = []
-answers line (byte ∷ rest) = printed-at line byte ++ answers (line-after line byte) rest
+unfoldable pub answers : Form → List ℕ → List ℕ → List ℕ
+answers form line [] = []
+answers form line (byte ∷ rest) = printed-at form line byte ++ answers form (line-after line byte) rest
 
 unfoldable pub left : List ℕ → List ℕ → List ℕ
 left line [] = line
 left line (byte ∷ rest) = left (line-after line byte) rest
 
 -- or at the end of input; nothing follows a final newline
-unfoldable pub last-answer : List ℕ → List ℕ
-last-answer [] = []
-last-answer (byte ∷ rest) = sheet-line (byte ∷ rest)
+unfoldable pub last-answer : Form → List ℕ → List ℕ
+last-answer form [] = []
+last-answer form (byte ∷ rest) = line-answer form (byte ∷ rest)
 
--- the whole sheet; empty input: the header
-unfoldable pub sheet : List ℕ → List ℕ
-sheet input = bytes "TT LPRIME GMST\n" ++ answers [] input ++ last-answer (left [] input)
+-- the whole output; empty input: the header
+unfoldable pub output : Form → List ℕ → List ℕ
+output form input = header form ++ answers form [] input ++ last-answer form (left [] input)
 
 -- ---- what the program holds of a line
 
--- a line of 81 bytes is refused, whatever follows
+-- a line of 149 bytes is refused, whatever follows
 abbrev pub kept : List ℕ → List ℕ
-kept line = take 81 line
+kept line = take 149 line
 
 abbrev pub held : Line → List ℕ
 held line = take (line .length) (line .bytes)
 
 -- one byte: the answer stands behind the bytes in use
-pub record Stepped (turn : Turn) (byte : ℕ) (entry exit : List ℕ) (next : Turn) : Type 0 where
-  pub line-within : next .line .length ≤ 81
+pub record Stepped (form : Form) (turn : Turn) (byte : ℕ) (entry exit : List ℕ) (next : Turn) : Type 0 where
+  pub line-within : next .line .length ≤ 149
   pub used-within : next .used ≤ turn .used + 80
   pub same-room : length exit ≡ length entry
-  pub printed : take (next .used) exit ≡ take (turn .used) entry ++ printed-at (held (turn .line)) byte
+  pub printed : take (next .used) exit ≡ take (turn .used) entry ++ printed-at form (held (turn .line)) byte
   pub line : held (next .line) ≡ kept (line-after (held (turn .line)) byte)
 
 -- a part of the input, whatever stood before it on its first line
-pub record Answered (before : Line) (chunk out : List ℕ) (next : Turn) : Type 0 where
-  pub line-within : next .line .length ≤ 81
+pub record Answered (form : Form) (before : Line) (chunk out : List ℕ) (next : Turn) : Type 0 where
+  pub line-within : next .line .length ≤ 149
   pub used-within : next .used ≤ 80 * length chunk
-  pub printed : (whole : List ℕ) → held before ≡ kept whole → take (next .used) out ≡ answers whole chunk
+  pub printed : (whole : List ℕ) → held before ≡ kept whole → take (next .used) out ≡ answers form whole chunk
   pub line : (whole : List ℕ) → held before ≡ kept whole → held (next .line) ≡ kept (left whole chunk)
 
 -- the end of the input
-pub record Ended (before : Line) (out : List ℕ) (used : ℕ) : Type 0 where
+pub record Ended (form : Form) (before : Line) (out : List ℕ) (used : ℕ) : Type 0 where
   pub used-within : used ≤ 80
-  pub printed : (whole : List ℕ) → held before ≡ kept whole → take used out ≡ last-answer whole
+  pub printed : (whole : List ℕ) → held before ≡ kept whole → take used out ≡ last-answer form whole

@@ -1,4 +1,5 @@
 // The answers to the lines that end in one part of the input, in a lent buffer.
+use super::line::Form;
 use super::line::Line;
 use super::line::answer;
 use super::line::longer;
@@ -34,14 +35,14 @@ fn put(text: Text, out: &mut [u8], start: usize) -> usize
 }
 
 // One byte of the input: a newline ends the line.
-fn step(turn: Turn, byte: u8, out: &mut [u8]) -> Turn
-    requires { ⌜ (turn .line .length ≤ 81) × (turn .used + 80 ≤ length (now out)) ⌝ }
-    ensures { λ r. ⌜ Stepped turn byte (now (out .entry)) (now (out .exit)) r ⌝ }
+fn step(form: Form, turn: Turn, byte: u8, out: &mut [u8]) -> Turn
+    requires { ⌜ (turn .line .length ≤ 149) × (turn .used + 80 ≤ length (now out)) ⌝ }
+    ensures { λ r. ⌜ Stepped form turn byte (now (out .entry)) (now (out .exit)) r ⌝ }
 {
     let line = turn.line;
     let used = turn.used;
     if byte == b'\n' {
-        let next = put(answer(line), out, used);
+        let next = put(answer(form, line), out, used);
         return Turn {
             line: no_line(),
             used: next,
@@ -54,27 +55,27 @@ fn step(turn: Turn, byte: u8, out: &mut [u8]) -> Turn
 }
 
 // A part of the input; 80 bytes for each byte of it are enough.
-pub fn answer_chunk(line: Line, chunk: &[u8], out: &mut [u8]) -> Turn
-    requires { ⌜ (line .length ≤ 81) × (80 * length (now chunk) ≤ length (now out)) ⌝ }
-    ensures { λ r. ⌜ Answered line (now (chunk .entry)) (now (out .exit)) r ⌝ }
+pub fn answer_chunk(form: Form, line: Line, chunk: &[u8], out: &mut [u8]) -> Turn
+    requires { ⌜ (line .length ≤ 149) × (80 * length (now chunk) ≤ length (now out)) ⌝ }
+    ensures { λ r. ⌜ Answered form line (now (chunk .entry)) (now (out .exit)) r ⌝ }
 {
     let mut turn = Turn { line, used: 0 };
     let mut at = 0;
     while at < chunk.len() {
-        turn = step(turn, chunk[at], out);
+        turn = step(form, turn, chunk[at], out);
         at += 1;
     }
     turn
 }
 
 // At the end of the input a line without a newline is answered too.
-pub fn answer_last(line: Line, out: &mut [u8]) -> usize
-    requires { ⌜ (line .length ≤ 81) × (80 ≤ length (now out)) ⌝ }
-    ensures { λ r. ⌜ Ended line (now (out .exit)) r ⌝ }
+pub fn answer_last(form: Form, line: Line, out: &mut [u8]) -> usize
+    requires { ⌜ (line .length ≤ 149) × (80 ≤ length (now out)) ⌝ }
+    ensures { λ r. ⌜ Ended form line (now (out .exit)) r ⌝ }
 {
     let length = line.length;
     if length == 0 {
         return 0;
     }
-    put(answer(line), out, 0)
+    put(answer(form, line), out, 0)
 }

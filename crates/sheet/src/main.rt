@@ -1,4 +1,6 @@
 // The argument sheet, on the case of the build description.
+use lines::line::Form;
+
 fn main() {
-    lines::run();
+    lines::run(Form::Sheet);
 }

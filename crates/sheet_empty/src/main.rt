@@ -1,4 +1,6 @@
 // The argument sheet, on empty input.
+use lines::line::Form;
+
 fn main() {
-    lines::run();
+    lines::run(Form::Sheet);
 }

@@ -1,5 +1,6 @@
 pub mod RequestLaws
 pub mod SheetLaws
+pub mod PlacesLineLaws
 pub mod BatchLaws
 pub mod HeadingLaws
 pub mod SkySizes

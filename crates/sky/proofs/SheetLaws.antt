@@ -21,12 +21,12 @@ zeros-column zero k = refl
 zeros-column (suc n) zero = refl
 zeros-column (suc n) (suc k) = zeros-column n k
 
-padded-column : (row : List ℤ) (n k : ℕ) → column (row ++ replicate n (pos 0)) k ≡ column row k
+pub padded-column : (row : List ℤ) (n k : ℕ) → column (row ++ replicate n (pos 0)) k ≡ column row k
 padded-column [] n k = zeros-column n k
 padded-column (entry ∷ row) n zero = refl
 padded-column (entry ∷ row) n (suc k) = padded-column row n k
 
-padded-start : (row : List ℤ) (n : ℕ) → start-from (row ++ replicate n (pos 0)) ≡ start-from row
+pub padded-start : (row : List ℤ) (n : ℕ) → start-from (row ++ replicate n (pos 0)) ≡ start-from row
 unfolding start-from
 padded-start row n i =
     record {

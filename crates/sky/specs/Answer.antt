@@ -1,7 +1,7 @@
 -- The answers to a request for a place (01, "A request and its numbered refusals"): a refused answer of any kind carries the number and zeros elsewhere.
 use mathlib.Core.Bool.{cond}
 use mathlib.Core.List.{List, _++_}
-use Prim.Native.Nat.{ℕ}
+use Prim.Native.Nat.{ℕ, _<_}
 use lib.Dec.{eqb}
 use lib.IntN.{pos}
 use Rattle.sky.specs.Air.{air-refusals}
@@ -31,6 +31,11 @@ nowhere = record { azimuth = pos 0; elevation = pos 0 }
 abbrev pub place-answer : PlaceAnswer → Answer Place
 place-answer (Places.Seen place) = record { refusal = 0; value = place }
 place-answer (Places.Refused n) = record { refusal = n; value = nowhere }
+
+-- a refused answer has a number, by which it is told from a place
+abbrev pub Numbered : PlaceAnswer → Type 0
+Numbered (Places.Seen place) = 0 < 1
+Numbered (Places.Refused n) = 0 < n
 
 abbrev pub shown-answer : ShownAnswer → Answer Shown
 shown-answer (Shows.Seen place) = record { refusal = 0; value = place }

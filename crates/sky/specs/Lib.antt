@@ -15,5 +15,6 @@ pub mod Refraction
 pub mod Shown
 pub mod Answer
 pub mod Sheet
+pub mod PlacesLine
 pub mod SkyRange
 pub mod Cases

@@ -15,7 +15,7 @@ use super::shown::shown_at;
 use numbers::sine_table::table;
 ghost use mathlib.Core.Path.{_≡_};
 ghost use Rattle.sky.specs.Refusal.{first};
-ghost use Rattle.sky.specs.Answer.{place-answer, shown-answer, request-refusals, place, shown-place};
+ghost use Rattle.sky.specs.Answer.{Numbered, place-answer, shown-answer, request-refusals, place, shown-place};
 
 // One of 1 to 11 where refused.
 pub enum PlaceAnswer {
@@ -41,6 +41,7 @@ fn request_refusal(start: Start, point: Point, air: Air) -> u8
 // Azimuth from north over east, and elevation without refraction, in 10⁻⁸ degree. The air is only judged.
 pub fn place(start: Start, body: Body, point: Point, air: Air) -> PlaceAnswer
     ensures { λ r. ⌜ place-answer r ≡ place start body point air ⌝ }
+    ensures { λ r. ⌜ Numbered r ⌝ }
 {
     let refusal = request_refusal(start, point, air);
     if refusal != 0 {

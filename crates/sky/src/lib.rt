@@ -7,6 +7,7 @@ pub mod heading;
 pub mod horizon;
 pub mod observer;
 pub mod place;
+pub mod places_line;
 pub mod product;
 pub mod refraction;
 pub mod request;

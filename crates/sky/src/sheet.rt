@@ -32,7 +32,7 @@ pub enum Row {
 }
 
 // The sheet's numbers in their order.
-fn start_from(numbers: [i64; 12]) -> Start
+pub fn start_from(numbers: [i64; 12]) -> Start
     ensures { λ r. ⌜ r ≡ start-from numbers ⌝ }
 {
     Start {
@@ -104,7 +104,7 @@ fn arguments_text(found: Arguments) -> Text
     appended_field(second, found.sidereal, b'\n')
 }
 
-fn refusal_text(refusal: u8) -> Text
+pub fn refusal_text(refusal: u8) -> Text
     ensures { λ r. ⌜ written r ≡ refusal-line refusal ⌝ }
     ensures { λ r. ⌜ r .length ≤ 80 ⌝ }
 {

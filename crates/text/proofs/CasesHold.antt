@@ -2,11 +2,12 @@
 use mathlib.Core.Path.{refl}
 use Rattle.numbers.proofs.CasesHold.{Each, more, none}
 use Rattle.text.specs.Cases.{Holds, bytes, cases}
-use Rattle.text.specs.Decimal.{decimal, digits, last-digits}
+use Rattle.text.specs.Decimal.{digits, last-digits, padded, signed, with-point}
 use Rattle.text.specs.Line.{all, is-natural, is-negative, is-number, line-numbers, longer, numbers, value, value-after, words}
 
 pub cases-hold : Each Holds cases
-unfolding bytes decimal digits last-digits all is-natural is-negative is-number line-numbers longer numbers value value-after words
+unfolding bytes digits last-digits padded signed with-point all is-natural is-negative is-number line-numbers longer numbers value value-after words
 cases-hold =
     more refl (more refl (more refl (more refl (more refl (more refl (more refl (more refl
-    (more refl (more refl (more refl (more refl (more refl (more refl (more refl (more refl none)))))))))))))))
+    (more refl (more refl (more refl (more refl (more refl (more refl (more refl (more refl
+    (more refl (more refl (more refl (more refl (more refl (more refl none)))))))))))))))))))))

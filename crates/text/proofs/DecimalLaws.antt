@@ -2,8 +2,9 @@
 use mathlib.Core.Bool.{Bool, cond, false, true}
 use mathlib.Core.List.{List, [], _∷_, _++_, append-assoc, append-nil}
 use mathlib.Core.Path.{_∙_, _≡_, ap, refl, subst, sym}
-use Prim.Native.Nat.{_%_, _+_, _/_, _<_, _^_, _≤_, suc, zero, ℕ}
+use Prim.Native.Nat.{_%_, _+_, _-_, _/_, _<_, _^_, _≤_, suc, zero, ℕ}
 use native.Mathlib.Nat.{add-suc, add-zero, div-lt-iff-lt-mul, not-suc-le-zero, pow-suc, suc-add}
+use native.Mathlib.Numerals.{add-one}
 use native.Mathlib.Omega.{arith}
 use lib.Dec.{ltb, ltb→lt}
 use lib.IntN.{natAbs, negsuc, pos, ℤ}
@@ -11,7 +12,7 @@ use lib.ListN.{drop, length, length-append, set, take}
 use lib.Seq.{length-take-le, sets, sets-eq, take-at}
 use lib.Signed.{_<ℤ_, _≤ℤ_}
 use borrow.Author.Tests.{le-ltb, lt-ltb, ltb-false, ltb-true}
-use Rattle.text.specs.Decimal.{Appended, _followed-by_, decimal, digits, last-digits, written}
+use Rattle.text.specs.Decimal.{Appended, _followed-by_, decimal, decimals, digits, last-digits, padded, point, signed, with-point, written}
 use Rattle.text.specs.Line.{minus}
 use Rattle.text.specs.declared.decimal.Text.{Text}
 
@@ -107,20 +108,46 @@ few-digits (suc k) n h = by-test (ltb n 10) refl (few-digits k (n / 10) (div-lt-
     by-test true e before = omega (arith, ap length (one-digit n (ltb-true n 10 e)))
     by-test false e before = omega (arith, ap length (more-digits n (ltb-false n 10 e)), length-append (digits (n / 10)) ((48 + n % 10) ∷ []))
 
+pub padded-length : (count n : ℕ) → length (padded count n) ≡ count
+unfolding padded
+padded-length zero n = refl
+padded-length (suc count) n =
+    length-append (padded count (n / 10)) ((48 + n % 10) ∷ []) ∙ ap (λ (k : ℕ). k + 1) (padded-length count (n / 10)) ∙ add-one count
+
+-- one digit more at the end
+pub padded-more : (count n : ℕ) → 0 < count → padded (count - 1) (n / 10) ++ ((48 + n % 10) ∷ []) ≡ padded count n
+unfolding padded
+padded-more zero n h = absurd (not-suc-le-zero h)
+padded-more (suc count) n h =
+    let same : suc count - 1 ≡ count = omega arith in
+    ap (λ (k : ℕ). padded k (n / 10) ++ ((48 + n % 10) ∷ [])) same
+
 -- ---- the sign
 
-pub below-zero : {z : ℤ} → z <ℤ pos 0 → decimal z ≡ minus ∷ digits (natAbs z)
-unfolding decimal
-below-zero {z = pos n} h = absurd (not-suc-le-zero (ltb→lt n 0 (h .lt)))
-below-zero {z = negsuc n} h = refl
+module _ (text : ℕ → List ℕ) where
+  pub below-zero : {z : ℤ} → z <ℤ pos 0 → signed text z ≡ minus ∷ text (natAbs z)
+  unfolding signed
+  below-zero {z = pos n} h = absurd (not-suc-le-zero (ltb→lt n 0 (h .lt)))
+  below-zero {z = negsuc n} h = refl
 
-pub from-zero : {z : ℤ} → pos 0 ≤ℤ z → decimal z ≡ digits (natAbs z)
-unfolding decimal
-from-zero {z = pos n} h = refl
-from-zero {z = negsuc n} h = absurd (h .le)
+  pub from-zero : {z : ℤ} → pos 0 ≤ℤ z → signed text z ≡ text (natAbs z)
+  unfolding signed
+  from-zero {z = pos n} h = refl
+  from-zero {z = negsuc n} h = absurd (h .le)
 
 -- any number of 64 bits has 20 bytes at most
 pub decimal-short : (z : ℤ) → natAbs z < 10 ^ 19 → length (decimal z) ≤ 20
-unfolding decimal
+unfolding signed
 decimal-short (pos n) h = omega (arith, few-digits 18 n h)
 decimal-short (negsuc n) h = omega (arith, few-digits 18 (suc n) h)
+
+-- units of 10⁻⁸ have 12 digits before the point at most, and 22 bytes with a sign
+pub point-most : (n : ℕ) → n < 2 ^ 64 → length (with-point n) ≤ 21
+unfolding with-point
+point-most n h =
+    omega (arith, length-append (digits (n / 100_000_000)) (point ∷ padded 8 n), padded-length 8 n, few-digits 11 (n / 100_000_000) (omega arith))
+
+pub decimals-short : (z : ℤ) → natAbs z < 2 ^ 64 → length (decimals z) ≤ 22
+unfolding signed
+decimals-short (pos n) h = omega (arith, point-most n h)
+decimals-short (negsuc n) h = omega (arith, point-most (suc n) h)

@@ -9,7 +9,7 @@ use lib.Dec.{eqb}
 use lib.IntN.{negsuc, negℤ, pos, ℤ}
 use lib.ListN.{length, length-append, length-map}
 use borrow.Author.Tests.{le-leb, ltb-true, ne-eqb, not-true}
-use Rattle.text.specs.Decimal.{decimal, digits}
+use Rattle.text.specs.Decimal.{decimal, digits, signed}
 use Rattle.text.specs.Line.{all, is-digit, is-natural, is-negative, is-number, longer, minus, natural, number, space, value, value-after, words}
 use Rattle.text.specs.RoundTrip.{LineAgain, NumberAgain, ValueAgain, is-short, printed}
 use Rattle.text.proofs.DecimalLaws.{each-number, few-digits, more-digits, one-digit}
@@ -70,18 +70,18 @@ minus-first s = refl
 -- ---- a number
 
 pub value-again : ValueAgain
-unfolding decimal
+unfolding signed
 value-again (pos n) = value-bare (digits n) (no-minus-in n) ∙ ap pos (natural-again n)
 value-again (negsuc n) = value-behind (minus ∷ digits (suc n)) (minus-first (digits (suc n))) ∙ ap (λ (m : ℕ). negℤ (pos m)) (natural-again (suc n))
 
-natural-digits : (n : ℕ) → n < 1_000_000_000 → is-natural (digits n) ≡ true
-natural-digits n h = sym (right-length (digits n) (some-digit n) (few-digits 8 n h)) ∙ all-are-digits n
+natural-digits : (n : ℕ) → n < 1_000_000_000 → is-natural 9 (digits n) ≡ true
+natural-digits n h = sym (right-length 9 (digits n) (some-digit n) (few-digits 8 n h)) ∙ all-are-digits n
 
-is-number-again : (z : ℤ) → is-short z ≡ true → is-number (decimal z) ≡ true
-unfolding decimal
-is-number-again (pos n) e = number-bare (digits n) (no-minus-in n) ∙ natural-digits n (ltb-true n 1_000_000_000 e)
+is-number-again : (z : ℤ) → is-short z ≡ true → is-number 9 (decimal z) ≡ true
+unfolding signed
+is-number-again (pos n) e = number-bare (digits n) (no-minus-in n) 9 ∙ natural-digits n (ltb-true n 1_000_000_000 e)
 is-number-again (negsuc n) e =
-    number-behind (minus ∷ digits (suc n)) (minus-first (digits (suc n))) ∙ natural-digits (suc n) (ltb-true (suc n) 1_000_000_000 e)
+    number-behind (minus ∷ digits (suc n)) (minus-first (digits (suc n))) 9 ∙ natural-digits (suc n) (ltb-true (suc n) 1_000_000_000 e)
 
 pub number-again : NumberAgain
 unfolding number
@@ -102,7 +102,7 @@ digits-inner (byte ∷ rest) e =
     (digits-inner rest (second-of (is-digit byte) (all is-digit rest) e))
 
 decimal-inner : (z : ℤ) → all is-inner (decimal z) ≡ true
-unfolding decimal all
+unfolding signed all
 decimal-inner (pos n) = digits-inner (digits n) (all-are-digits n)
 decimal-inner (negsuc n) = digits-inner (digits (suc n)) (all-are-digits (suc n))
 
@@ -127,7 +127,7 @@ words-again first [] = word-only (decimal first) (decimal-inner first)
 words-again first (next ∷ rest) =
     word-first (decimal first) (printed next rest) (decimal-inner first) ∙ ap (λ (list : List (List ℕ)). decimal first ∷ list) (words-again next rest)
 
-numbers-again : (list : List ℤ) → all is-short list ≡ true → all is-number (map decimal list) ≡ true
+numbers-again : (list : List ℤ) → all is-short list ≡ true → all (is-number 9) (map decimal list) ≡ true
 unfolding all
 numbers-again [] e = refl
 numbers-again (z ∷ rest) e =
@@ -140,7 +140,7 @@ values-again (z ∷ rest) = ap₂ _∷_ (value-again z) (values-again rest)
 pub line-again : LineAgain
 line-again first rest e =
     let line = printed first rest in
-    all-numbers (length (first ∷ rest)) line
+    all-numbers (length (first ∷ rest)) 9 line
     (ap length (words-again first rest) ∙ length-map (first ∷ rest) decimal)
-    (ap (all is-number) (words-again first rest) ∙ numbers-again (first ∷ rest) e)
+    (ap (all (is-number 9)) (words-again first rest) ∙ numbers-again (first ∷ rest) e)
     ∙ ap some (ap (map value) (words-again first rest) ∙ values-again (first ∷ rest))

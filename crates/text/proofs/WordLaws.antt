@@ -4,16 +4,16 @@ use mathlib.Core.List.{List, [], _∷_, _++_, map}
 use mathlib.Core.Logic.{⊎-elim}
 use mathlib.Core.Option.{Option, none, some}
 use mathlib.Core.Path.{_∙_, _≡_, ap, refl, sym}
-use Prim.Native.Nat.{_+_, _<_, _≤_, suc, ℕ}
-use native.Mathlib.Nat.{eq-or-lt-of-le}
+use Prim.Native.Nat.{_*_, _+_, _<_, _≤_, suc, ℕ}
+use native.Mathlib.Nat.{eq-or-lt-of-le, not-suc-le-zero}
 use native.Mathlib.Omega.{arith}
 use lib.Dec.{eqb, leb}
 use lib.IntN.{ℤ}
 use lib.ListN.{drop, drop-of-length-le, length, length-drop, take}
 use lib.Seq.{drop-drop}
 use borrow.Author.Tests.{eq-eqb, le-leb, lt-leb, ne-eqb}
-use Rattle.text.specs.Line.{all, is-number, line-numbers, longer, numbers, space, value, word-length, words}
-use Rattle.text.proofs.LineLaws.{at-place}
+use Rattle.text.specs.Line.{all, is-negative, is-number, line-numbers, longer, numbers, space, value, word-length, words}
+use Rattle.text.proofs.LineLaws.{at-place, few-digits, first-of, number-bare, number-behind, second-of}
 
 -- the words behind the first, from its end on
 unfoldable after-word : List ℕ → List (List ℕ)
@@ -88,12 +88,12 @@ all-append test (x ∷ xs) ys = ap (λ (p : Bool). test x && p) (all-append test
     and-assoc false b c = refl
 
 -- the numbers of a line, case by case
-module _ (count : ℕ) (s : List ℕ) where
-  pub other-count : (length (words s) ≡ count → ⊥) → line-numbers count s ≡ none
+module _ (count most : ℕ) (s : List ℕ) where
+  pub other-count : (length (words s) ≡ count → ⊥) → line-numbers count most s ≡ none
   unfolding line-numbers
   other-count h = simp (ne-eqb (length (words s)) count h)
 
-  pub other-word : all is-number (words s) ≡ false → line-numbers count s ≡ none
+  pub other-word : all (is-number most) (words s) ≡ false → line-numbers count most s ≡ none
   unfolding line-numbers numbers
   other-word e =
       ap (λ (p : Bool). cond (eqb (length (words s)) count) (cond p (some (map value (words s))) none) none) e
@@ -103,6 +103,51 @@ module _ (count : ℕ) (s : List ℕ) where
       either true = refl
       either false = refl
 
-  pub all-numbers : length (words s) ≡ count → all is-number (words s) ≡ true → line-numbers count s ≡ some (map value (words s))
+  pub all-numbers : length (words s) ≡ count → all (is-number most) (words s) ≡ true → line-numbers count most s ≡ some (map value (words s))
   unfolding line-numbers numbers
   all-numbers h e = simp (eq-eqb (length (words s)) count h, e)
+
+-- ---- no line of twelve numbers is longer than 143 bytes
+
+-- the bytes of the words, and one more for each
+unfoldable bytes-in : List (List ℕ) → ℕ
+bytes-in [] = 0
+bytes-in (word ∷ rest) = suc (length word + bytes-in rest)
+
+longer-bytes : (byte : ℕ) (list : List (List ℕ)) → 0 < bytes-in list → bytes-in (longer byte list) ≡ suc (bytes-in list)
+unfolding bytes-in longer
+longer-bytes byte [] h = absurd (not-suc-le-zero h)
+longer-bytes byte (word ∷ rest) h = omega arith
+
+words-bytes : (s : List ℕ) → bytes-in (words s) ≡ suc (length s)
+unfolding bytes-in words
+words-bytes [] = refl
+words-bytes (byte ∷ rest) = by-test (eqb byte space) (words-bytes rest)
+  where
+    by-test : (p : Bool) → bytes-in (words rest) ≡ suc (length rest) → bytes-in (cond p ([] ∷ words rest) (longer byte (words rest))) ≡ suc (suc (length rest))
+    by-test true e = omega (arith, e)
+    by-test false e = longer-bytes byte (words rest) (omega (arith, e)) ∙ ap suc e
+
+number-most : (s : List ℕ) → is-number 10 s ≡ true → length s ≤ 11
+number-most s e = by-sign (is-negative s) refl
+  where
+    by-sign : (p : Bool) → is-negative s ≡ p → length s ≤ 11
+    by-sign true n = omega (arith, few-digits 10 (drop 1 s) (sym (number-behind s n 10) ∙ e), length-drop 1 s)
+    by-sign false n = omega (arith, few-digits 10 s (sym (number-bare s n 10) ∙ e))
+
+numbers-most : (list : List (List ℕ)) → all (is-number 10) list ≡ true → bytes-in list ≤ 12 * length list
+unfolding bytes-in all
+numbers-most [] e = omega arith
+numbers-most (word ∷ rest) e =
+    omega (
+      arith,
+      number-most word (first-of (is-number 10 word) (all (is-number 10) rest) e),
+      numbers-most rest (second-of (is-number 10 word) (all (is-number 10) rest) e),
+    )
+
+pub long-line : (s : List ℕ) → 143 < length s → line-numbers 12 10 s ≡ none
+long-line s h = by-test (all (is-number 10) (words s)) refl
+  where
+    by-test : (p : Bool) → all (is-number 10) (words s) ≡ p → line-numbers 12 10 s ≡ none
+    by-test true e = other-count 12 10 s (λ n. omega (arith, numbers-most (words s) e, words-bytes s, n))
+    by-test false e = other-word 12 10 s e

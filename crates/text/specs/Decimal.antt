@@ -21,10 +21,28 @@ last-digits (suc room) n =
 unfoldable pub digits : ℕ → List ℕ
 digits n = last-digits (suc n) n
 
--- a minus sign below zero
-unfoldable pub decimal : ℤ → List ℕ
-decimal (pos n) = digits n
-decimal (negsuc n) = minus ∷ digits (suc n)
+-- a minus sign below zero, and the size
+unfoldable pub signed : (ℕ → List ℕ) → ℤ → List ℕ
+signed text (pos n) = text n
+signed text (negsuc n) = minus ∷ text (suc n)
+
+abbrev pub decimal : ℤ → List ℕ
+decimal = signed digits
+
+-- so many digits, the last ones of n, with zeros in front where it has fewer
+unfoldable pub padded : ℕ → ℕ → List ℕ
+padded zero n = []
+padded (suc count) n = padded count (n / 10) ++ ((48 + n % 10) ∷ [])
+
+abbrev pub point : ℕ
+point = 46
+
+-- n units of 10⁻⁸, with eight digits behind the point
+unfoldable pub with-point : ℕ → List ℕ
+with-point n = digits (n / 100_000_000) ++ point ∷ padded 8 n
+
+abbrev pub decimals : ℤ → List ℕ
+decimals = signed with-point
 
 -- the bytes of a text that are in use
 abbrev pub written : Text → List ℕ

@@ -43,9 +43,9 @@ unfoldable pub value-after : ℕ → List ℕ → ℕ
 value-after so-far [] = so-far
 value-after so-far (digit ∷ rest) = value-after (so-far * 10 + (digit - 48)) rest
 
--- 1 to 9 digits
-unfoldable pub is-natural : List ℕ → Bool
-is-natural word = leb 1 (length word) && (leb (length word) 9 && all is-digit word)
+-- 1 digit, up to the most that are allowed
+unfoldable pub is-natural : ℕ → List ℕ → Bool
+is-natural most word = leb 1 (length word) && (leb (length word) most && all is-digit word)
 
 abbrev pub natural : List ℕ → ℕ
 natural word = value-after 0 word
@@ -54,28 +54,34 @@ unfoldable pub is-negative : List ℕ → Bool
 is-negative [] = false
 is-negative (byte ∷ rest) = eqb byte minus
 
--- optional minus, 1 to 9 digits
-unfoldable pub is-number : List ℕ → Bool
-is-number word = cond (is-negative word) (is-natural (drop 1 word)) (is-natural word)
+-- optional minus, then the digits
+unfoldable pub is-number : ℕ → List ℕ → Bool
+is-number most word = cond (is-negative word) (is-natural most (drop 1 word)) (is-natural most word)
 
 -- the value of an optional minus and digits, of which there may be any number
 unfoldable pub value : List ℕ → ℤ
 value word = cond (is-negative word) (negℤ (pos (natural (drop 1 word)))) (pos (natural word))
 
-unfoldable pub number : List ℕ → Option ℤ
-number word = cond (is-number word) (some (value word)) none
+unfoldable pub number : ℕ → List ℕ → Option ℤ
+number most word = cond (is-number most word) (some (value word)) none
 
 -- every word is a number
-unfoldable pub numbers : List (List ℕ) → Option (List ℤ)
-numbers list = cond (all is-number list) (some (map value list)) none
+unfoldable pub numbers : ℕ → List (List ℕ) → Option (List ℤ)
+numbers most list = cond (all (is-number most) list) (some (map value list)) none
 
 -- every word is a number, and there are so many of them
-unfoldable pub line-numbers : ℕ → List ℕ → Option (List ℤ)
-line-numbers count line = cond (eqb (length (words line)) count) (numbers (words line)) none
+unfoldable pub line-numbers : ℕ → ℕ → List ℕ → Option (List ℤ)
+line-numbers count most line = cond (eqb (length (words line)) count) (numbers most (words line)) none
 
--- nine whole numbers, line at most 80 bytes
+-- nine whole numbers of 1 to 9 digits, line at most 80 bytes
 unfoldable pub sheet-numbers : List ℕ → Option (List ℤ)
-sheet-numbers line = cond (leb (length line) 80) (line-numbers 9 line) none
+sheet-numbers line = cond (leb (length line) 80) (line-numbers 9 9 line) none
+
+-- the line's first bytes are these
+unfoldable pub begins : List ℕ → List ℕ → Bool
+begins [] line = true
+begins (byte ∷ rest) [] = false
+begins (byte ∷ rest) (first ∷ line) = eqb byte first && begins rest line
 
 -- the numbers as they are handed back: zeros in the entries that are left, and in all of them where the line is another
 unfoldable pub answer : Option (List ℤ) → Numbers

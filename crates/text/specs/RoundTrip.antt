@@ -24,10 +24,10 @@ abbrev pub ValueAgain : Type 0
 ValueAgain = (z : ℤ) → value (decimal z) ≡ z
 
 abbrev pub NumberAgain : Type 0
-NumberAgain = (z : ℤ) → is-short z ≡ true → number (decimal z) ≡ some z
+NumberAgain = (z : ℤ) → is-short z ≡ true → number 9 (decimal z) ≡ some z
 
 -- a line of nine numbers, or of any other count
 abbrev pub LineAgain : Type 0
 LineAgain =
     (first : ℤ) (rest : List ℤ) → all is-short (first ∷ rest) ≡ true
-    → line-numbers (length (first ∷ rest)) (printed first rest) ≡ some (first ∷ rest)
+    → line-numbers (length (first ∷ rest)) 9 (printed first rest) ≡ some (first ∷ rest)

@@ -4,7 +4,7 @@ ghost use mathlib.Core.List.{_∷_, []};
 ghost use mathlib.Core.Path.{_≡_};
 ghost use Prim.Native.Nat.{_+_, _<_, _≤_};
 ghost use lib.ListN.{length, replicate};
-ghost use Rattle.text.specs.Decimal.{Appended, digits, decimal};
+ghost use Rattle.text.specs.Decimal.{Appended, digits, decimal, padded, with-point, decimals};
 
 // A line that is being written: its bytes, and how many are in use.
 pub struct Text {
@@ -67,4 +67,37 @@ pub fn appended_number(text: Text, value: i64) -> Text
         return appended_digits(appended_byte(text, b'-'), size);
     }
     appended_digits(text, size)
+}
+
+// So many digits, the last ones of a number.
+fn appended_padded(text: Text, count: usize, size: u64) -> Text
+    requires { ⌜ text .length + count ≤ 80 ⌝ }
+    ensures { λ r. ⌜ Appended text (padded count size) r ⌝ }
+{
+    if count == 0 {
+        return text;
+    }
+    let before = appended_padded(text, count - 1, size / 10);
+    appended_byte(before, b'0' + (size % 10) as u8)
+}
+
+// Any size has 12 digits before the point at most.
+fn appended_units(text: Text, size: u64) -> Text
+    requires { ⌜ text .length + 21 ≤ 80 ⌝ }
+    ensures { λ r. ⌜ Appended text (with-point size) r ⌝ }
+{
+    let whole = appended_digits(text, size / 100_000_000);
+    appended_padded(appended_byte(whole, b'.'), 8, size)
+}
+
+// Units of 10⁻⁸ with eight decimals.
+pub fn appended_decimals(text: Text, value: i64) -> Text
+    requires { ⌜ text .length + 22 ≤ 80 ⌝ }
+    ensures { λ r. ⌜ Appended text (decimals value) r ⌝ }
+{
+    let size = absolute(value);
+    if value < 0 {
+        return appended_units(appended_byte(text, b'-'), size);
+    }
+    appended_units(text, size)
 }

@@ -4,7 +4,7 @@ ghost use mathlib.Core.Option.{none};
 ghost use mathlib.Core.Path.{_≡_};
 ghost use Prim.Native.Nat.{_≤_};
 ghost use lib.ListN.{length, drop};
-ghost use Rattle.text.specs.Line.{word-length, is-digit, all, is-natural, natural, is-negative, is-number, value, line-numbers, sheet-numbers, answer};
+ghost use Rattle.text.specs.Line.{word-length, is-digit, all, is-natural, natural, is-negative, is-number, value, line-numbers, sheet-numbers, begins, answer};
 
 // The numbers of a line, with zeros in the entries that are left; all zeros where the line is no such line.
 pub struct Numbers {
@@ -45,20 +45,20 @@ fn are_digits(word: &[u8]) -> bool
     true
 }
 
-fn is_natural(word: &[u8]) -> bool
-    ensures { λ r. ⌜ r ≡ is-natural (now (word .entry)) ⌝ }
+fn is_natural(word: &[u8], most: usize) -> bool
+    ensures { λ r. ⌜ r ≡ is-natural most (now (word .entry)) ⌝ }
 {
     if word.len() < 1 {
         return false;
     }
-    if word.len() > 9 {
+    if word.len() > most {
         return false;
     }
     are_digits(word)
 }
 
 fn natural(word: &[u8]) -> u64
-    requires { ⌜ is-natural (now word) ≡ true ⌝ }
+    requires { ⌜ is-natural 10 (now word) ≡ true ⌝ }
     ensures { λ r. ⌜ r ≡ natural (now (word .entry)) ⌝ }
 {
     let mut value: u64 = 0;
@@ -80,19 +80,19 @@ fn is_negative(word: &[u8]) -> bool
     }
 }
 
-pub fn is_number(word: &[u8]) -> bool
-    ensures { λ r. ⌜ r ≡ is-number (now (word .entry)) ⌝ }
+pub fn is_number(word: &[u8], most: usize) -> bool
+    ensures { λ r. ⌜ r ≡ is-number most (now (word .entry)) ⌝ }
 {
     if is_negative(word) {
-        is_natural(&word[1..])
+        is_natural(&word[1..], most)
     } else {
-        is_natural(word)
+        is_natural(word, most)
     }
 }
 
 // The value of a word that is a number.
 pub fn value(word: &[u8]) -> i64
-    requires { ⌜ is-number (now word) ≡ true ⌝ }
+    requires { ⌜ is-number 10 (now word) ≡ true ⌝ }
     ensures { λ r. ⌜ r ≡ value (now (word .entry)) ⌝ }
 {
     if is_negative(word) {
@@ -100,6 +100,23 @@ pub fn value(word: &[u8]) -> i64
     } else {
         natural(word) as i64
     }
+}
+
+// Whether a line has these bytes first.
+pub fn begins(first: &[u8], line: &[u8]) -> bool
+    ensures { λ r. ⌜ r ≡ begins (now (first .entry)) (now (line .entry)) ⌝ }
+{
+    if line.len() < first.len() {
+        return false;
+    }
+    let mut at = 0;
+    while at < first.len() {
+        if first[at] != line[at] {
+            return false;
+        }
+        at += 1;
+    }
+    true
 }
 
 // What is handed back for any other line.
@@ -113,9 +130,9 @@ fn other() -> Numbers
 }
 
 // So many numbers, from a place of the line to its end.
-pub fn line_numbers(line: &[u8], start: usize, count: usize) -> Numbers
-    requires { ⌜ (start ≤ length (now line)) × (count ≤ 12) ⌝ }
-    ensures { λ r. ⌜ r ≡ answer (line-numbers count (drop start (now (line .entry)))) ⌝ }
+pub fn line_numbers(line: &[u8], start: usize, count: usize, most: usize) -> Numbers
+    requires { ⌜ (start ≤ length (now line)) × ((count ≤ 12) × (most ≤ 10)) ⌝ }
+    ensures { λ r. ⌜ r ≡ answer (line-numbers count most (drop start (now (line .entry)))) ⌝ }
 {
     let mut values = [0; 12];
     let mut at = start;
@@ -126,7 +143,7 @@ pub fn line_numbers(line: &[u8], start: usize, count: usize) -> Numbers
             return other();
         }
         let end = at + word_length(&line[at..]);
-        if !is_number(&line[at..end]) {
+        if !is_number(&line[at..end], most) {
             return other();
         }
         values[found] = value(&line[at..end]);
@@ -146,5 +163,5 @@ pub fn sheet_numbers(line: &[u8]) -> Numbers
     if line.len() > 80 {
         return other();
     }
-    line_numbers(line, 0, 9)
+    line_numbers(line, 0, 9, 9)
 }

@@ -37,7 +37,7 @@ array-share-prefix-out : tie.Need-array-share-prefix-out
 array-share-prefix-out c = search needs
 
 slice-aggregate-write-all : tie.Need-slice-aggregate-write-all
-slice-aggregate-write-all c = let k = c .before .before .answer-chunk in sym (length-take-le (k .result .used) (k .last .1 .1 .0) (omega arith))
+slice-aggregate-write-all c = let k = c .before .before .answer-chunk in sym (length-take-le (k .result .used) (k .last .1 .1 .1 .0) (omega arith))
 
 write-all-requires : tie.Need-write-all-requires
 write-all-requires c κs = search needs

@@ -6,16 +6,13 @@ use Rattle.lines.proofs.run.Statement.{statement}
 use Rattle.lines.proofs.run.Tie as tie
 
 abbrev Inv-loop : tie.InvT-loop
-Inv-loop line₀ reads₀ line reads = line .length ≤ 81
+Inv-loop form line₀ reads₀ line reads = line .length ≤ 149
 
 abbrev μ-loop : tie.MeasureT-loop
-μ-loop line₀ reads₀ line reads = reads
+μ-loop form line₀ reads₀ line reads = reads
 
-slice-aggregate-write-all : tie.Need-slice-aggregate-write-all Inv-loop μ-loop
-slice-aggregate-write-all c = search needs
-
-write-all-requires : tie.Need-write-all-requires Inv-loop μ-loop
-write-all-requires c κs = search needs
+write-header-requires : tie.Need-write-header-requires Inv-loop μ-loop
+write-header-requires c κs = search needs
 
 no-line-requires : tie.Need-no-line-requires Inv-loop μ-loop
 no-line-requires c κs = search needs
@@ -48,8 +45,7 @@ run-spec =
     (tie.spec
     Inv-loop
     μ-loop
-    slice-aggregate-write-all
-    write-all-requires
+    write-header-requires
     no-line-requires
     loop-holds
     read-once-requires

@@ -32,7 +32,7 @@ returns-2 : tie.Need-returns-2
 returns-2 c =
     let b = c .before .before .before in
     let s = b .before .before .before in
-    let answer = c .before .place .ensures ∙ (λ i. place (s .args .start) (b .body-of .ensures i) (s .args .point) (c .before .before .air-of .ensures i)) in
+    let answer = c .before .place .ensures .0 ∙ (λ i. place (s .args .start) (b .body-of .ensures i) (s .args .point) (c .before .before .air-of .ensures i)) in
     c .place-numbers2 .ensures ∙ ap place-numbers answer ∙ simp (← b .before .before .code-refusal .ensures, eq-eqb _ _ (b .before .if1 .left))
 
 pub raddlehue-place-spec : {M : Type 1} → statement M

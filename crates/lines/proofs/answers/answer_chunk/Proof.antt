@@ -13,16 +13,16 @@ use Rattle.lines.proofs.answers.answer_chunk.Statement.{statement}
 use Rattle.lines.proofs.answers.answer_chunk.Tie as tie
 
 abbrev Inv-loop : tie.InvT-loop
-Inv-loop chunk out₀ turn₀ at₀ out turn at = (at ≤ length chunk) × ((length out ≡ length out₀) × Answered (turn₀ .line) (take at chunk) out turn)
+Inv-loop form chunk out₀ turn₀ at₀ out turn at = (at ≤ length chunk) × ((length out ≡ length out₀) × Answered form (turn₀ .line) (take at chunk) out turn)
 
 abbrev μ-loop : tie.MeasureT-loop
-μ-loop chunk out₀ turn₀ at₀ out turn at = length chunk - at
+μ-loop form chunk out₀ turn₀ at₀ out turn at = length chunk - at
 
 taken-more : (s : List ℕ) (i : ℕ) → i < length s → take i s ++ (getD s i 0 ∷ []) ≡ take (i + 1) s
 taken-more s i h = sym (ap (λ (n : ℕ). take n s) (add-one i) ∙ take-suc s i 0 h)
 
 loop-holds : tie.Need-loop-holds Inv-loop μ-loop
-loop-holds c = let s = c .before .before in (omega arith, (refl, answered-none (s .args .line) (s .args .out .now) (s .pre .0)))
+loop-holds c = let s = c .before .before in (omega arith, (refl, answered-none (s .args .form) (s .args .line) (s .args .out .now) (s .pre .0)))
 
 shared-slice-read-step : tie.Need-shared-slice-read-step Inv-loop μ-loop
 shared-slice-read-step c = search needs
@@ -58,7 +58,7 @@ loop-again c =
       omega (arith, below),
       (
         k .ensures .same-room ∙ l .loop .inv .1 .0,
-        subst (λ (part : List ℕ). Answered (s .args .line) part (k .last .1 .1 .0) (k .result)) (taken-more chunk (l .loop .at) below) (answered-more (l .loop .inv .1 .1) (k .ensures)),
+        subst (λ (part : List ℕ). Answered (s .args .form) (s .args .line) part (k .last .1 .1 .1 .0) (k .result)) (taken-more chunk (l .loop .at) below) (answered-more (l .loop .inv .1 .1) (k .ensures)),
       ),
     )
 
@@ -69,7 +69,7 @@ returns : tie.Need-returns Inv-loop μ-loop
 returns c =
     let l = c .before in
     let s = l .before .before .before in
-    subst (λ (part : List ℕ). Answered (s .args .line) part (l .loop .out) (l .loop .turn)) (take-all (l .loop .at) (s .args .chunk .now) (c .loop-test .left)) (l .loop .inv .1 .1)
+    subst (λ (part : List ℕ). Answered (s .args .form) (s .args .line) part (l .loop .out) (l .loop .turn)) (take-all (l .loop .at) (s .args .chunk .now) (c .loop-test .left)) (l .loop .inv .1 .1)
 
 pub answer-chunk-spec : {M : Type 1} → statement M
 answer-chunk-spec =

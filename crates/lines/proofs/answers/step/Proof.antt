@@ -27,7 +27,7 @@ returns c =
     let p = c .before .before .before in
     let a = p .before .before in
     let s = a .before .before .before .before in
-    let new = at-newline (held (s .args .turn .line)) (a .before .if1 .taken) in
+    let new = at-newline (s .args .form) (held (s .args .turn .line)) (a .before .if1 .taken) in
     record {
       line-within = c .no-line .ensures .0;
       used-within = omega (arith, p .put .ensures .0 .0, a .answer .ensures .0);
@@ -42,7 +42,7 @@ longer-requires c κs = search needs
 returns-2 : tie.Need-returns-2
 returns-2 c =
     let s = c .before .before .before .before in
-    let other = at-other (held (s .args .turn .line)) (c .before .if1 .left) in
+    let other = at-other (s .args .form) (held (s .args .turn .line)) (c .before .if1 .left) in
     record {
       line-within = c .longer .ensures .0;
       used-within = omega arith;

@@ -1,5 +1,6 @@
 -- `answer::place` meets its contract.
 use mathlib.Core.Path.{_∙_, _≡_, ap, subst⁻¹, sym}
+use native.Mathlib.Omega.{arith}
 use borrow.Author.Needs.{needs}
 use borrow.Author.Tests.{eq-eqb, ne-eqb}
 use Rattle.sky.proofs.RequestLaws.{on-earth, point-passes, start-passes, start-reachable}
@@ -33,7 +34,7 @@ request-refusal-requires c κs = search needs
 
 returns : tie.Need-returns
 unfolding place
-returns c = simp (← c .before .request-refusal .ensures, ne-eqb _ _ (c .if1 .taken))
+returns c = (simp (← c .before .request-refusal .ensures, ne-eqb _ _ (c .if1 .taken)), omega (arith, c .if1 .taken))
 
 table-requires : tie.Need-table-requires
 table-requires c κs = search needs
@@ -52,8 +53,8 @@ returns-2 : tie.Need-returns-2
 unfolding place
 returns-2 c =
     let e = c .before .before .before .before in
-    rw (eq-eqb _ _ (passes e))
-    (λ i. record { refusal = 0; value = (c .place-at .ensures ∙ ap (place-at (s e .args .body) (s e .args .point)) (c .before .instant-of .ensures)) i })
+    let value = c .place-at .ensures ∙ ap (place-at (s e .args .body) (s e .args .point)) (c .before .instant-of .ensures) in
+    (rw (eq-eqb _ _ (passes e)) (λ i. record { refusal = 0; value = value i }), omega arith)
 
 pub place-spec : {M : Type 1} → statement M
 place-spec =

@@ -1,7 +1,8 @@
 -- `sheet::appended_field` meets its contract.
 use mathlib.Core.Path.{_≡_}
-use Prim.Native.Nat.{_+_, _≤_}
+use Prim.Native.Nat.{_+_, _<_, _≤_, _^_}
 use native.Mathlib.Omega.{arith}
+use lib.IntN.{natAbs}
 use lib.Signed.{natAbs-le}
 use mir.Syntax.{w64}
 use mir.Val.{ofZ, toZ}

@@ -35,7 +35,7 @@ returns : tie.Need-returns
 returns c =
     let k = c .before .before .before in
     let below = less (any (k .before .fits .value)) (lit (pos 0)) (c .before .before .if1 .taken) in
-    subst (λ (s : List ℕ). Appended (k .before .args .text) s (c .appended-digits .result)) (ap (λ (n : ℕ). minus ∷ digits n) (size-is k) ∙ sym (below-zero below))
+    subst (λ (s : List ℕ). Appended (k .before .args .text) s (c .appended-digits .result)) (ap (λ (n : ℕ). minus ∷ digits n) (size-is k) ∙ sym (below-zero digits below))
     (appended-twice (c .before .appended-byte .ensures) (c .appended-digits .ensures))
 
 appended-digits-requires-2 : tie.Need-appended-digits-requires-2
@@ -45,7 +45,7 @@ returns-2 : tie.Need-returns-2
 returns-2 c =
     let k = c .before .before in
     let above = not-less (any (k .before .fits .value)) (lit (pos 0)) (c .before .if1 .left) in
-    subst (λ (s : List ℕ). Appended (k .before .args .text) s (c .appended-digits2 .result)) (ap digits (size-is k) ∙ sym (from-zero above)) (c .appended-digits2 .ensures)
+    subst (λ (s : List ℕ). Appended (k .before .args .text) s (c .appended-digits2 .result)) (ap digits (size-is k) ∙ sym (from-zero digits above)) (c .appended-digits2 .ensures)
 
 pub appended-number-spec : {M : Type 1} → statement M
 appended-number-spec =

@@ -30,11 +30,13 @@ is-natural-requires-2 c κs = search needs
 
 returns : tie.Need-returns
 returns c =
-    let s = c .before .before .before .before .before .args .word .now in
-    c .is-natural .ensures ∙ ap is-natural (to-end s 1) ∙ sym (number-behind s (has-sign (c .before .before)))
+    let a = c .before .before .before .before .before .args in
+    c .is-natural .ensures ∙ ap (is-natural (a .most)) (to-end (a .word .now) 1) ∙ sym (number-behind (a .word .now) (has-sign (c .before .before)) (a .most))
 
 returns-2 : tie.Need-returns-2
-returns-2 c = c .is-natural2 .ensures ∙ sym (number-bare (c .before .before .before .before .args .word .now) (sym (c .before .before .is-negative .ensures) ∙ c .before .if1 .left))
+returns-2 c =
+    let a = c .before .before .before .before .args in
+    c .is-natural2 .ensures ∙ sym (number-bare (a .word .now) (sym (c .before .before .is-negative .ensures) ∙ c .before .if1 .left) (a .most))
 
 pub is-number-spec : {M : Type 1} → statement M
 is-number-spec =

@@ -10,17 +10,17 @@ use borrow.Author.Needs.{needs}
 use borrow.Author.Tests.{not-false, not-true}
 use Rattle.numbers.proofs.Machine.{passed}
 use Rattle.text.specs.Line.{answer, is-number, value, word-length}
-use Rattle.text.proofs.LineLaws.{to-end}
+use Rattle.text.proofs.LineLaws.{number-wider, to-end}
 use Rattle.text.proofs.Reading.{Reading, all-read, begun, no-number, one-more, too-few, too-many}
 use Rattle.text.proofs.WordLaws.{end-within, word-at, word-end}
 use Rattle.text.proofs.line.line_numbers.Statement.{statement}
 use Rattle.text.proofs.line.line_numbers.Tie as tie
 
 abbrev Inv-loop : tie.InvT-loop
-Inv-loop line start count values₀ at₀ found₀ values at found = Reading line start count values at found
+Inv-loop line start count most values₀ at₀ found₀ values at found = Reading line start count most values at found
 
 abbrev μ-loop : tie.MeasureT-loop
-μ-loop line start count values₀ at₀ found₀ values at found = count - found
+μ-loop line start count most values₀ at₀ found₀ values at found = count - found
 
 abbrev loop-of : tie.After-word-length Inv-loop μ-loop → tie.At-loop Inv-loop μ-loop
 loop-of c = c .before .before .before .before
@@ -29,6 +29,9 @@ loop-of c = c .before .before .before .before
 module _ (c : tie.After-word-length Inv-loop μ-loop) where
   abbrev line : List ℕ
   line = loop-of c .before .before .args .line .now
+
+  abbrev most : ℕ
+  most = loop-of c .before .before .args .most
 
   abbrev at : ℕ
   at = loop-of c .loop .at
@@ -54,11 +57,11 @@ module _ (c : tie.After-word-length Inv-loop μ-loop) where
       same : (m n : ℕ) → m + n - m ≡ n
       same m n = omega arith
 
-word-tested : (c : tie.After-is-number Inv-loop μ-loop) → c .is-number .result ≡ is-number (word-at (line (c .before .before)) (at (c .before .before)))
-word-tested c = c .is-number .ensures ∙ ap is-number (word-is (c .before .before))
+word-tested : (c : tie.After-is-number Inv-loop μ-loop) → c .is-number .result ≡ is-number (most (c .before .before)) (word-at (line (c .before .before)) (at (c .before .before)))
+word-tested c = c .is-number .ensures ∙ ap (is-number (most (c .before .before))) (word-is (c .before .before))
 
 loop-holds : tie.Need-loop-holds Inv-loop μ-loop
-loop-holds c = begun (c .before .args .line .now) (c .before .args .start) (c .before .args .count) (c .before .pre .0)
+loop-holds c = begun (c .before .args .line .now) (c .before .args .start) (c .before .args .count) (c .before .args .most) (c .before .pre .0)
 
 other-requires : tie.Need-other-requires Inv-loop μ-loop
 other-requires c κs = search needs
@@ -114,7 +117,9 @@ part-value-end c = ends (c .before .before .before)
 value-requires : tie.Need-value-requires Inv-loop μ-loop
 value-requires c κs =
     let t = c .before .before in
-    sym (t .is-number .ensures) ∙ not-false (t .is-number .result) (c .before .if2 .left)
+    let w = t .before .before in
+    let s = loop-of w .before .before in
+    number-wider (most w) 10 (s .pre .1 .1) _ (sym (t .is-number .ensures) ∙ not-false (t .is-number .result) (c .before .if2 .left))
 
 mul-values : tie.Need-mul-values Inv-loop μ-loop
 mul-values c = search needs
@@ -140,7 +145,7 @@ loop-again c =
     let l = loop-of w in
     rw (end-is w)
     (one-more (l .loop .inv) (w .before .before .if1 .left) (sym (word-tested t) ∙ not-false (t .is-number .result) (c .before .before .if2 .left)) (w .before .before .before .loop-test .taken)
-    (l .before .before .pre .1) (toZ w64 (ofZ w64 (c .value .result))) (passed (c .value .ok) (c .value .ensures ∙ ap value (word-is w))))
+    (l .before .before .pre .1 .0) (toZ w64 (ofZ w64 (c .value .result))) (passed (c .value .ok) (c .value .ensures ∙ ap value (word-is w))))
 
 other-requires-3 : tie.Need-other-requires-3 Inv-loop μ-loop
 other-requires-3 c κs = search needs

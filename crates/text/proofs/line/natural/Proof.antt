@@ -17,7 +17,7 @@ record Partly (word : List ℕ) (value i : ℕ) : Type 0 where
   same : natural word ≡ value-after value (drop i word)
 
 -- one digit more
-module _ {word : List ℕ} {value i : ℕ} (e : is-natural word ≡ true) (p : Partly word value i) (h : i < length word) where
+module _ {word : List ℕ} {value i : ℕ} (e : is-natural 10 word ≡ true) (p : Partly word value i) (h : i < length word) where
   abbrev here : is-digit (getD word i 0) ≡ true
   here = passes-here word i h is-digit (p .digits)
 
@@ -33,7 +33,7 @@ module _ {word : List ℕ} {value i : ℕ} (e : is-natural word ≡ true) (p : P
   onward : Partly word next (i + 1)
   onward = record { within = omega arith; digits = passes-after word i h is-digit (p .digits); same = p .same ∙ value-at word i h value }
 
-  next-below : next < 1_000_000_000
+  next-below : next < 10_000_000_000
   next-below = omega (arith, value-grows next (drop (i + 1) word), onward .same, natural-below word e)
 
 abbrev Inv-loop : tie.InvT-loop
@@ -43,7 +43,7 @@ abbrev μ-loop : tie.MeasureT-loop
 μ-loop word value₀ at₀ value at = length word - at
 
 loop-holds : tie.Need-loop-holds Inv-loop μ-loop
-loop-holds c = record { within = omega arith; digits = all-digits (c .args .word .now) (c .pre); same = refl }
+loop-holds c = record { within = omega arith; digits = all-digits 10 (c .args .word .now) (c .pre); same = refl }
 
 mul-value : tie.Need-mul-value Inv-loop μ-loop
 mul-value c = record { fits = omega (arith, next-below (c .before .before .pre) (c .before .loop .inv) (c .loop-test .taken)) }

@@ -16,14 +16,14 @@ use Rattle.text.proofs.line.value.Tie as tie
 has-sign : (c : tie.Then1) → is-negative (c .before .before .before .args .word .now) ≡ true
 has-sign c = sym (c .before .is-negative .ensures) ∙ c .if1 .taken
 
-natural-behind : (c : tie.Then1) → is-natural (drop 1 (c .before .before .before .args .word .now)) ≡ true
-natural-behind c = sym (number-behind (c .before .before .before .args .word .now) (has-sign c)) ∙ c .before .before .before .pre
+natural-behind : (c : tie.Then1) → is-natural 10 (drop 1 (c .before .before .before .args .word .now)) ≡ true
+natural-behind c = sym (number-behind (c .before .before .before .args .word .now) (has-sign c) 10) ∙ c .before .before .before .pre
 
 module _ (c : tie.After-natural) where
   behind-is : c .natural .result ≡ natural (drop 1 (c .before .before .before .before .before .args .word .now))
   behind-is = c .natural .ensures ∙ ap natural (to-end (c .before .before .before .before .before .args .word .now) 1)
 
-  behind-most : c .natural .result ≤ 1_000_000_000
+  behind-most : c .natural .result ≤ 10_000_000_000
   behind-most = omega (arith, behind-is, natural-below (drop 1 (c .before .before .before .before .before .args .word .now)) (natural-behind (c .before .before)))
 
   abbrev behind : Mirror
@@ -33,11 +33,11 @@ module _ (c : tie.After-natural) where
 no-sign : (c : tie.Else1) → is-negative (c .before .before .before .args .word .now) ≡ false
 no-sign c = sym (c .before .is-negative .ensures) ∙ c .if1 .left
 
-natural-bare : (c : tie.Else1) → is-natural (c .before .before .before .args .word .now) ≡ true
-natural-bare c = sym (number-bare (c .before .before .before .args .word .now) (no-sign c)) ∙ c .before .before .before .pre
+natural-bare : (c : tie.Else1) → is-natural 10 (c .before .before .before .args .word .now) ≡ true
+natural-bare c = sym (number-bare (c .before .before .before .args .word .now) (no-sign c) 10) ∙ c .before .before .before .pre
 
 module _ (c : tie.After-natural2) where
-  bare-most : c .natural2 .result ≤ 1_000_000_000
+  bare-most : c .natural2 .result ≤ 10_000_000_000
   bare-most = omega (arith, c .natural2 .ensures, natural-below (c .before .before .before .before .args .word .now) (natural-bare (c .before)))
 
   abbrev bare : Mirror
@@ -58,7 +58,7 @@ part-natural-end c = search needs
 natural-requires : tie.Need-natural-requires
 natural-requires c κs =
     let s = c .before .before .before .before .args .word .now in
-    ap is-natural (to-end s 1) ∙ natural-behind (c .before)
+    ap (is-natural 10) (to-end s 1) ∙ natural-behind (c .before)
 
 cast-result : tie.Need-cast-result
 cast-result c = nat-fits (behind-most c) tt

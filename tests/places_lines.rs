@@ -1,0 +1,91 @@
+// The program `places`: the places and refusals of tests/vectors/places.txt to the last decimal, and lines of every form.
+use std::env;
+use std::fs;
+
+mod program;
+use program::printed;
+
+const NUMBERS: &str = "2003 10 17 19 30 30 0 0 670 -1051786000 397424760 1830";
+const SUN: &str = "194.34024073 39.87204605\n";
+const OTHER: &str = "refused 16\n";
+
+fn degrees(units: &str) -> String {
+    let units: i64 = units.parse().unwrap();
+    let sign = if units < 0 { "-" } else { "" };
+    let size = units.unsigned_abs();
+    format!("{sign}{}.{:08}", size / 100_000_000, size % 100_000_000)
+}
+
+// The request without its air, and its answer; a refusal of the air (10, 11) is no request here.
+fn case(vector: &str) -> Option<(String, String)> {
+    let (request, answer) = vector.split_once(" | ")?;
+    let words: Vec<&str> = request.split(' ').collect();
+    let numbers: Vec<&str> = answer.split(' ').collect();
+    if !["sun", "moon"].contains(&words[0]) || ["10", "11"].contains(&numbers[0]) {
+        return None;
+    }
+    let line = match numbers[0] {
+        "0" => format!("{} {}\n", degrees(numbers[1]), degrees(numbers[2])),
+        refusal => format!("refused {refusal}\n"),
+    };
+    Some((words[..13].join(" ") + "\n", line))
+}
+
+fn vectors(program: &str, path: &str) -> usize {
+    let text = fs::read_to_string(path).unwrap();
+    let (requests, answers): (Vec<String>, Vec<String>) = text.lines().filter_map(case).unzip();
+    let output = printed(program, requests.concat().as_bytes());
+    let lines: Vec<&str> = output.split_inclusive('\n').collect();
+    assert_eq!(lines.len(), answers.len());
+    for ((request, answer), line) in requests.iter().zip(&answers).zip(lines) {
+        assert_eq!(line, answer, "{request}");
+    }
+    answers.len()
+}
+
+// Inputs with what is printed for them.
+fn forms(program: &str) -> usize {
+    let sun = format!("sun {NUMBERS}");
+    let zeros = ["-0000000000"; 12].join(" ");
+    let cases: Vec<(Vec<u8>, String)> = vec![
+        (vec![], String::new()),
+        (b"\n\n".to_vec(), OTHER.repeat(2)),
+        (sun.clone().into(), SUN.into()),
+        (format!("{sun}\n{sun}").into(), SUN.repeat(2)),
+        (format!("{sun}\n\n").into(), format!("{SUN}{OTHER}")),
+        (format!("{sun}{}\n{sun}\n", "0".repeat(100_000)).into(), format!("{OTHER}{SUN}")),
+        (format!("{}\n{sun}\n", "sun ".repeat(1000)).into(), format!("{OTHER}{SUN}")),
+        (format!("moon {zeros}\n").into(), "refused 1\n".into()),
+        (format!("moon {zeros}0\n").into(), OTHER.into()),
+        (format!("moon {zeros} \n").into(), OTHER.into()),
+        (format!("moon {zeros}").into(), "refused 1\n".into()),
+        (format!("moon {zeros}0").into(), OTHER.into()),
+        (format!("sun\0{NUMBERS}\n").into(), OTHER.into()),
+        (vec![0xff, b'\n', 0x80], OTHER.repeat(2)),
+    ];
+    for (input, answers) in &cases {
+        assert_eq!(&printed(program, input), answers, "{:?}", String::from_utf8_lossy(input));
+    }
+    cases.len()
+}
+
+// Lines that meet the end of a read at every byte of theirs.
+fn large(program: &str) -> usize {
+    let count = 100;
+    let lines = format!("sun {NUMBERS}\n").repeat(count);
+    let answers = SUN.repeat(count);
+    for before in 0..60 {
+        let input = format!("{}\n{lines}", "9".repeat(before));
+        assert_eq!(printed(program, input.as_bytes()), format!("{OTHER}{answers}"));
+    }
+    60
+}
+
+fn main() {
+    let program = env::args().nth(1).expect("the program");
+    let path = env::args().nth(2).expect("the file of vectors");
+    let count = vectors(&program, &path);
+    assert_eq!(count, 181);
+    let further = forms(&program) + large(&program);
+    println!("places: {count} vectors and {further} further inputs come out");
+}
