@@ -46,7 +46,8 @@ fn vectors(program: &str, path: &str) -> usize {
 // Inputs with what is printed for them.
 fn forms(program: &str) -> usize {
     let sun = format!("sun {NUMBERS}");
-    let zeros = ["-0000000000"; 12].join(" ");
+    let zeros = format!("{} {}", ["-000000000"; 9].join(" "), ["-0000000000"; 3].join(" "));
+    let wide_year = sun.replace("2003", "0000002003");
     let cases: Vec<(Vec<u8>, String)> = vec![
         (vec![], String::new()),
         (b"\n\n".to_vec(), OTHER.repeat(2)),
@@ -59,6 +60,7 @@ fn forms(program: &str) -> usize {
         (format!("moon {zeros}0\n").into(), OTHER.into()),
         (format!("moon {zeros} \n").into(), OTHER.into()),
         (format!("moon {zeros}").into(), "refused 1\n".into()),
+        (format!("{wide_year}\n").into(), OTHER.into()),
         (format!("moon {zeros}0").into(), OTHER.into()),
         (format!("sun\0{NUMBERS}\n").into(), OTHER.into()),
         (vec![0xff, b'\n', 0x80], OTHER.repeat(2)),

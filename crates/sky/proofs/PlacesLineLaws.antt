@@ -11,7 +11,7 @@ use lib.ListN.{drop, length, length-drop, replicate}
 use Rattle.text.proofs.WordLaws.{long-line}
 use Rattle.text.specs.Cases.{bytes}
 use Rattle.text.specs.Decimal.{decimals}
-use Rattle.text.specs.Line.{answer, begins, space}
+use Rattle.text.specs.Line.{answer, begins, short-numbers, space}
 use Rattle.sky.specs.Answer.{Answer, place}
 use Rattle.sky.specs.PlacesLine.{body-answer, no-request, place-from, place-line, places-answer, point-from}
 use Rattle.sky.specs.Sheet.{newline, start-from}
@@ -52,7 +52,13 @@ module _ (line : List ℕ) where
 
   long-body : (body : Body) (k : ℕ) → 143 < length line - k → body-answer body (drop k line) ≡ no-request
   unfolding body-answer place-from
-  long-body body k h = ap (place-from body) (long-line (drop k line) (omega (arith, length-drop k line)))
+  long-body body k h =
+      let short = short-numbers 9 (drop k line) in
+      ap (λ (numbers : Option (List ℤ)). cond short (place-from body numbers) no-request) (long-line (drop k line) (omega (arith, length-drop k line))) ∙ any short
+    where
+      any : (p : Bool) → _≡_ {A = Answer Place} (cond p no-request no-request) no-request
+      any true = refl
+      any false = refl
 
   -- 148 bytes: the longest body and its space, and twelve numbers
   pub too-long : 148 < length line → places-answer line ≡ no-request

@@ -9,7 +9,7 @@ use lib.ListN.{drop}
 use Rattle.sums.specs.Table.{column}
 use Rattle.text.specs.Cases.{bytes}
 use Rattle.text.specs.Decimal.{decimals}
-use Rattle.text.specs.Line.{begins, line-numbers, space}
+use Rattle.text.specs.Line.{begins, line-numbers, short-numbers, space}
 use Rattle.sky.specs.Answer.{Answer, nowhere, place}
 use Rattle.sky.specs.Sheet.{newline, refusal-line, start-from}
 use Rattle.sky.specs.declared.air.Air.the-variants as Airs
@@ -31,9 +31,9 @@ unfoldable pub place-from : Body → Option (List ℤ) → Answer Place
 place-from body none = no-request
 place-from body (some numbers) = place (start-from numbers) body (point-from numbers) Airs.None
 
--- twelve whole numbers of 1 to 10 digits: a longitude has up to ten
+-- the sheet's nine numbers, of 1 to 9 digits, and three of 1 to 10: a longitude has up to ten
 unfoldable pub body-answer : Body → List ℕ → Answer Place
-body-answer body words = place-from body (line-numbers 12 10 words)
+body-answer body words = cond (short-numbers 9 words) (place-from body (line-numbers 12 10 words)) no-request
 
 unfoldable pub places-answer : List ℕ → Answer Place
 places-answer line =

@@ -13,6 +13,7 @@ use text::decimal::appended_decimals;
 use text::decimal::empty;
 use text::line::begins;
 use text::line::line_numbers;
+use text::line::short_numbers;
 ghost use mathlib.Core.List.{[], _∷_, _++_};
 ghost use mathlib.Core.Path.{_≡_};
 ghost use Prim.Native.Nat.{_+_, _≤_};
@@ -38,6 +39,9 @@ fn body_answer(body: Body, line: &[u8], start: usize) -> PlaceAnswer
     ensures { λ r. ⌜ place-answer r ≡ body-answer body (drop start (now (line .entry))) ⌝ }
     ensures { λ r. ⌜ Numbered r ⌝ }
 {
+    if !short_numbers(line, start, 9) {
+        return PlaceAnswer::Refused(16);
+    }
     let numbers = line_numbers(line, start, 12, 10);
     if !numbers.read {
         return PlaceAnswer::Refused(16);

@@ -5,7 +5,7 @@ use mathlib.Core.Option.{Option, none, some}
 use Prim.Native.Nat.{ℕ, _*_, _+_, _-_, suc}
 use lib.Dec.{eqb, leb}
 use lib.IntN.{ℤ, negℤ, pos}
-use lib.ListN.{drop, length, replicate}
+use lib.ListN.{drop, length, replicate, take}
 use Rattle.text.specs.declared.line.Numbers.{Numbers}
 
 abbrev pub space : ℕ
@@ -72,6 +72,10 @@ numbers most list = cond (all (is-number most) list) (some (map value list)) non
 -- every word is a number, and there are so many of them
 unfoldable pub line-numbers : ℕ → ℕ → List ℕ → Option (List ℤ)
 line-numbers count most line = cond (eqb (length (words line)) count) (numbers most (words line)) none
+
+-- the first words, so many of them, are numbers of 1 to 9 digits
+unfoldable pub short-numbers : ℕ → List ℕ → Bool
+short-numbers count line = all (is-number 9) (take count (words line))
 
 -- nine whole numbers of 1 to 9 digits, line at most 80 bytes
 unfoldable pub sheet-numbers : List ℕ → Option (List ℤ)

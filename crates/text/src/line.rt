@@ -4,7 +4,7 @@ ghost use mathlib.Core.Option.{none};
 ghost use mathlib.Core.Path.{_≡_};
 ghost use Prim.Native.Nat.{_≤_};
 ghost use lib.ListN.{length, drop};
-ghost use Rattle.text.specs.Line.{word-length, is-digit, all, is-natural, natural, is-negative, is-number, value, line-numbers, sheet-numbers, begins, answer};
+ghost use Rattle.text.specs.Line.{word-length, is-digit, all, is-natural, natural, is-negative, is-number, value, line-numbers, short-numbers, sheet-numbers, begins, answer};
 
 // The numbers of a line, with zeros in the entries that are left; all zeros where the line is no such line.
 pub struct Numbers {
@@ -154,6 +154,27 @@ pub fn line_numbers(line: &[u8], start: usize, count: usize, most: usize) -> Num
         return other();
     }
     Numbers { read: true, values }
+}
+
+// Whether the first words from a place of the line on, so many of them, are numbers of at most nine digits.
+pub fn short_numbers(line: &[u8], start: usize, count: usize) -> bool
+    requires { ⌜ start ≤ length (now line) ⌝ }
+    ensures { λ r. ⌜ r ≡ short-numbers count (drop start (now (line .entry))) ⌝ }
+{
+    let mut at = start;
+    let mut found = 0;
+    while found < count {
+        if at > line.len() {
+            return true;
+        }
+        let end = at + word_length(&line[at..]);
+        if !is_number(&line[at..end], 9) {
+            return false;
+        }
+        at = end + 1;
+        found += 1;
+    }
+    true
 }
 
 // The nine numbers of a line of the sheet.
