@@ -4,7 +4,7 @@ use mathlib.Core.List.{List, [], _∷_, _++_, map}
 use mathlib.Core.Logic.{⊎-elim}
 use mathlib.Core.Option.{Option, none, some}
 use mathlib.Core.Path.{_∙_, _≡_, ap, refl, sym}
-use Prim.Native.Nat.{_*_, _+_, _<_, _≤_, suc, ℕ}
+use Prim.Native.Nat.{_*_, _+_, _-_, _<_, _≤_, suc, ℕ}
 use native.Mathlib.Nat.{eq-or-lt-of-le, not-suc-le-zero}
 use native.Mathlib.Omega.{arith}
 use lib.Dec.{eqb, leb}
@@ -151,3 +151,17 @@ long-line s h = by-test (all (is-number 10) (words s)) refl
     by-test : (p : Bool) → all (is-number 10) (words s) ≡ p → line-numbers 12 10 s ≡ none
     by-test true e = other-count 12 10 s (λ n. omega (arith, numbers-most (words s) e, words-bytes s, n))
     by-test false e = other-word 12 10 s e
+
+-- what a call of `word_length` found at a place within the line
+module _ (line : List ℕ) (at : ℕ) (h : at ≤ length line) (n : ℕ) (e : n ≡ word-length (drop at line)) where
+  pub end-found : at + n ≡ word-end line at
+  end-found = ap (λ (m : ℕ). at + m) e
+
+  pub end-inside : at + n ≤ length line
+  end-inside = omega (arith, end-found, end-within line at h)
+
+  pub word-found : take (at + n - at) (drop at line) ≡ word-at line at
+  word-found = ap (λ (m : ℕ). take m (drop at line)) (same at n ∙ e)
+    where
+      same : (m k : ℕ) → m + k - m ≡ k
+      same m k = omega arith
