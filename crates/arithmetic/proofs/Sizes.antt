@@ -3,7 +3,9 @@ use mathlib.Core.Path.{_≡_, refl}
 use Prim.Native.Nat.{_*_, _+_, _≤_, suc, zero, ℕ}
 use native.Mathlib.Nat.{le-trans, mul-le-mul-left, mul-le-mul-right}
 use native.Mathlib.Omega.{arith}
+use lib.Dec.{leb→le}
 use lib.IntN.{_*ℤ_, _+ℤ_, _-ℤ_, natAbs, negsuc, negℤ, pos, ℤ}
+use lib.Signed.{_≤ℤ_}
 use Rattle.arithmetic.proofs.Difference.{_⊞_, abs-parts, at-parts, ⟨_⟩}
 
 pub abs-add : (a b : ℤ) → natAbs (a +ℤ b) ≤ natAbs a + natAbs b
@@ -28,3 +30,12 @@ sub-bound v u h k = omega (arith, abs-add v (negℤ u), abs-neg u)
 
 pub mul-bound : (v u : ℤ) {m n : ℕ} → natAbs v ≤ m → natAbs u ≤ n → natAbs (v *ℤ u) ≤ m * n
 mul-bound v u {m} {n} h k = rw abs-mul (le-trans (mul-le-mul-left (natAbs v) k) (mul-le-mul-right n h))
+
+-- the size of a number between two that are not below zero
+pub at-least : {k : ℕ} {z : ℤ} → pos k ≤ℤ z → k ≤ natAbs z
+at-least {k} {z = pos n} h = leb→le k n (h .le)
+at-least {k} {z = negsuc n} h = absurd (h .le)
+
+pub at-most : {j k : ℕ} {z : ℤ} → pos j ≤ℤ z → z ≤ℤ pos k → natAbs z ≤ k
+at-most {j} {k} {z = pos n} h l = leb→le n k (l .le)
+at-most {j} {k} {z = negsuc n} h l = absurd (h .le)

@@ -4,7 +4,7 @@ use Prim.Native.Nat.{_+_, _-_, _/_, _<_, ℕ}
 use native.Mathlib.Nat.{mod-lt, zero-lt-suc}
 use lib.Dec.{eqb, ltb}
 use lib.IntN.{natAbs, ℤ}
-use Rattle.numbers.specs.Angle.{full-turn, half-turn}
+use Rattle.number_rules.specs.Angle.{full-turn, half-turn}
 use Rattle.sky.specs.Heading.{MiddleAnswer, clockwise, half-way, is-reduced, middle, middle-of}
 
 abbrev refused : ℕ → MiddleAnswer

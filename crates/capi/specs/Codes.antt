@@ -3,13 +3,13 @@ use mathlib.Core.Bool.{cond}
 use Prim.Native.Nat.{ℕ}
 use lib.Dec.{eqb, leb}
 use lib.IntN.{pos, ℤ}
-use Rattle.numbers.specs.Angle.{quarter-turn}
-use Rattle.sums.specs.Instant.{minus}
+use Rattle.number_rules.specs.Angle.{quarter-turn}
+use Rattle.sum_rules.specs.Instant.{minus}
 use Rattle.sky.specs.Refusal.{_else_, _unless_, between}
 use Rattle.sky.specs.declared.air.Air.{Air}
 use Rattle.sky.specs.declared.air.Air.the-variants.{Measured, None, Standard}
-use Rattle.sky.specs.declared.request.Body.{Body}
-use Rattle.sky.specs.declared.request.Body.the-variants.{Moon, Sun}
+use Rattle.sky_vectors.specs.declared.geocentric.Body.{Body}
+use Rattle.sky_vectors.specs.declared.geocentric.Body.the-variants.{Moon, Sun}
 use Rattle.capi.specs.declared.codes.GivenAir.{GivenAir}
 
 abbrev pub unknown-body : ℕ

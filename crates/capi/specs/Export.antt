@@ -2,11 +2,11 @@
 use mathlib.Core.Bool.{cond}
 use lib.Dec.{leb}
 use lib.IntN.{ℤ, pos, natAbs}
-use Rattle.sums.specs.Instant.{furthest}
-use Rattle.sums.specs.Moon.{longitude, latitude, metres}
-use Rattle.sums.specs.Sun.{L, B, R}
-use Rattle.sums.specs.Nutation.{Δψ, Δε, obliquity}
-use Rattle.sums.specs.Sidereal.{mean}
+use Rattle.sum_rules.specs.Instant.{furthest}
+use Rattle.sum_rules.specs.Moon.{longitude, latitude, metres}
+use Rattle.sum_rules.specs.Sun.{L, B, R}
+use Rattle.sum_rules.specs.Nutation.{Δψ, Δε, obliquity}
+use Rattle.sum_rules.specs.Sidereal.{mean}
 use Rattle.capi.specs.declared.instants.MoonSums.{MoonSums}
 use Rattle.capi.specs.declared.instants.SolarSums.{SolarSums}
 use Rattle.capi.specs.declared.instants.NutationSums.{NutationSums}

@@ -12,8 +12,8 @@ use Rattle.sky.specs.Heading.{MiddleAnswer}
 use Rattle.sky.specs.Refraction.{refraction}
 use Rattle.sky.specs.Refusal.{first}
 use Rattle.sky.specs.Shown.{nothing-shown}
-use Rattle.sky.specs.declared.place.Place.{Place}
-use Rattle.sky.specs.declared.request.Point.{Point}
+use Rattle.sky_vectors.specs.declared.place.Place.{Place}
+use Rattle.sky_vectors.specs.declared.station.Point.{Point}
 use Rattle.sky.specs.declared.request.Start.{Start}
 use Rattle.sky.specs.declared.shown.Shown.{Shown}
 use Rattle.capi.specs.Codes.{air-of, body-of, body-refusal, code-refusal, elevation-refusal, kind-refusal}

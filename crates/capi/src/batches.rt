@@ -3,7 +3,7 @@ use super::codes::body_of;
 use super::codes::body_refusal;
 use sky::batch::Batch;
 use sky::batch::places_at;
-use sky::request::Point;
+use sky_vectors::station::Point;
 use sky::request::Start;
 ghost use mathlib.Core.Path.{_≡_};
 ghost use lib.ListN.{length};

@@ -1,6 +1,6 @@
 // The body and the air of a request, which C gives by a code. An unknown code is read as the last one, and refused before that matters.
 use sky::air::Air;
-use sky::request::Body;
+use sky_vectors::geocentric::Body;
 use sky::request::or_else;
 ghost use mathlib.Core.Path.{_≡_};
 ghost use Rattle.capi.specs.Codes.{air-of, body-of, body-refusal, code-refusal, kind-refusal};

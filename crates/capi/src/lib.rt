@@ -8,10 +8,10 @@ pub mod refractions;
 
 use numbers::calendar::DayCount;
 ghost use mathlib.Core.Path.{_≡_};
-ghost use Rattle.numbers.specs.Sine.{sine, cosine};
+ghost use Rattle.number_rules.specs.Sine.{sine, cosine};
 ghost use Rattle.numbers.specs.Arctangent.{arctangent};
 ghost use Rattle.numbers.specs.Root.{root};
-ghost use Rattle.numbers.specs.Calendar.{day-count};
+ghost use Rattle.number_rules.specs.Calendar.{day-count};
 
 // A day count: the refusal, 0 where there is none, and the days from 2000-01-01, 0 where refused.
 #[repr(C)]

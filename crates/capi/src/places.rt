@@ -7,7 +7,7 @@ use sky::answer::PlaceAnswer;
 use sky::answer::ShownAnswer;
 use sky::answer::place;
 use sky::answer::shown_place;
-use sky::request::Point;
+use sky_vectors::station::Point;
 use sky::request::Start;
 ghost use mathlib.Core.Path.{_≡_};
 ghost use Rattle.sky.specs.Answer.{place-answer, shown-answer};

@@ -3,11 +3,11 @@ use mathlib.Core.Bool.{Bool, cond}
 use lib.IntN.{pos, ℤ}
 use lib.Ieee as Ieee
 use lib.Ieee.{Float}
-use Rattle.numbers.specs.Angle.{full-turn}
+use Rattle.number_rules.specs.Angle.{full-turn}
 use Rattle.sky.specs.Air.{within}
 use Rattle.sky.specs.Double.{_+d_, _/d_, double}
 use Rattle.sky.specs.Refusal.{between}
-use Rattle.sums.specs.Instant.{minus}
+use Rattle.sum_rules.specs.Instant.{minus}
 
 -- at most the tolerance away; a float that is not a number is near nothing
 abbrev pub near : Float → Float → Float → Bool

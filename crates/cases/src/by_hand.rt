@@ -9,8 +9,8 @@ use sky::answer::place;
 use sky::answer::shown_place;
 use sky::heading::Middle;
 use sky::heading::middle_azimuth;
-use sky::request::Body;
-use sky::request::Point;
+use sky_vectors::geocentric::Body;
+use sky_vectors::station::Point;
 use sky::request::Start;
 use sky::shown::Shown;
 

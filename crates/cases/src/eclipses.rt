@@ -6,11 +6,11 @@ use numbers::sine::cosine;
 use sky::air::Air;
 use sky::answer::PlaceAnswer;
 use sky::answer::place;
-use sky::place::Place;
-use sky::request::Body;
-use sky::request::Point;
+use sky_vectors::place::Place;
+use sky_vectors::geocentric::Body;
+use sky_vectors::station::Point;
 use sky::request::Start;
-use sums::instant::SECOND;
+use sum_rules::instant::SECOND;
 ghost use Prim.Native.Nat.{_≤_};
 ghost use lib.IntN.{natAbs};
 

@@ -1,28 +1,28 @@
 // The values that the reports print between an instant and a place.
 use numbers::angle::Angle;
 use numbers::sine_table::table;
-use sky::geocentric::Geocentric;
-use sky::geocentric::geocentric_at;
-use sky::place::Place;
-use sky::place::place_of;
-use sky::request::Body;
-use sky::request::Point;
+use sky_vectors::geocentric::Geocentric;
+use sky_vectors::geocentric::geocentric_at;
+use sky_vectors::place::Place;
+use sky_vectors::place::place_of;
+use sky_vectors::geocentric::Body;
+use sky_vectors::station::Point;
 use sky::request::Start;
 use sky::request::instant_of;
-use sky::station::Station;
-use sky::station::station_at;
-use sums::instant::Powers;
+use sky_vectors::station::Station;
+use sky_vectors::station::station_at;
+use sum_rules::instant::Powers;
 use sums::instant::powers_at;
 use sums::nutation::Nutation;
 use sums::nutation::nutation_at;
 ghost use mathlib.Core.Path.{_≡_};
 ghost use Rattle.sky.specs.Refusal.{first};
 ghost use Rattle.sky.specs.Request.{instant, start-refusals, point-refusals};
-ghost use Rattle.sky.specs.Geocentric.{geocentric};
-ghost use Rattle.sky.specs.Station.{station};
-ghost use Rattle.sums.specs.Nutation.{Δψ, Δε};
+ghost use Rattle.sky_vectors.specs.Geocentric.{geocentric};
+ghost use Rattle.sky_vectors.specs.Station.{station};
+ghost use Rattle.sum_rules.specs.Nutation.{Δψ, Δε};
 ghost use Rattle.cases.specs.Steps.{from-south-pole};
-ghost use Rattle.sums.specs.Instant.{Reached};
+ghost use Rattle.sum_rules.specs.Instant.{Reached};
 
 // Δψ and Δε, the apparent place from the Earth's centre, and the obliquity and the sidereal angle at the point.
 pub struct Steps {

@@ -12,9 +12,9 @@ use lib.ListN.{length, length-append}
 use lib.Seq.{length-take-le, take-all, take-append-le, take-at}
 use borrow.Author.Tests.{eq-eqb, leb-false, leb-true, ne-eqb}
 use Rattle.text.proofs.LineLaws.{too-long-line}
-use Rattle.sky.proofs.PlacesLineLaws.{too-long}
-use Rattle.sky.specs.PlacesLine.{answer-line, no-request, places-line}
-use Rattle.sky.specs.Sheet.{newline, row-from, row-line, sheet-line, sheet-row}
+use Rattle.line_answers.proofs.PlacesLineLaws.{too-long}
+use Rattle.line_answers.specs.PlacesLine.{answer-line, no-request, places-line}
+use Rattle.line_answers.specs.Sheet.{newline, row-from, row-line, sheet-line, sheet-row}
 use Rattle.lines.specs.Lines.{Answered, Stepped, answers, kept, last-answer, left, line-after, line-answer, printed-at}
 use Rattle.lines.specs.declared.answers.Turn.{Turn}
 use Rattle.lines.specs.declared.line.Form.{Form}

@@ -6,8 +6,8 @@ use Prim.Native.Nat.{ℕ, _*_, _+_, _≤_}
 use lib.Dec.{eqb}
 use lib.ListN.{length, take}
 use Rattle.text.specs.Cases.{bytes}
-use Rattle.sky.specs.PlacesLine.{places-line}
-use Rattle.sky.specs.Sheet.{newline, sheet-line}
+use Rattle.line_answers.specs.PlacesLine.{places-line}
+use Rattle.line_answers.specs.Sheet.{newline, sheet-line}
 use Rattle.lines.specs.declared.answers.Turn.{Turn}
 use Rattle.lines.specs.declared.line.Form.{Form}
 use Rattle.lines.specs.declared.line.Form.the-variants as Forms

@@ -1,6 +1,6 @@
 // A line that is being read, and the program that reads it.
-use sky::places_line::places_line;
-use sky::sheet::sheet_line;
+use line_answers::places_line::places_line;
+use line_answers::sheet::sheet_line;
 use text::decimal::Text;
 use text::decimal::appended_bytes;
 use text::decimal::empty;

@@ -1,16 +1,15 @@
--- The arctangent: its table's rule at each entry, which case a test of the sign leaves, and how large the numbers grow.
-use mathlib.Core.Bool.{Bool, _&&_, cond, false, true}
+-- The arctangent: which case a test of the sign leaves, and how large the numbers grow.
+use mathlib.Core.Bool.{Bool, cond, false, true}
 use mathlib.Core.List.{[], _∷_}
-use mathlib.Core.Path.{_∙_, _≡_, refl, subst, subst⁻¹, subst₂, sym}
+use mathlib.Core.Path.{_≡_, refl, subst, subst⁻¹, sym}
 use Prim.Native.Nat.{_*_, _+_, _/_, _<_, _^_, _≤_, suc, zero, ℕ}
 use native.Mathlib.Decide.{le-ind}
 use native.Mathlib.Nat.{le-refl, le-trans, mul-le-mul-right}
 use native.Mathlib.Numerals.{add-one}
 use native.Mathlib.Omega.{arith}
-use lib.Dec.{T, eqb, leb, leb→le, lit<, lit≤, ltb→lt}
+use lib.Dec.{eqb, leb, leb→le, lit<, lit≤, ltb→lt}
 use lib.IntN.{_*ℤ_, _+ℤ_, _-ℤ_, natAbs, negsuc, negℤ, pos, ℤ}
 use lib.Signed.{_<ℤ_, _≤ℤ_, leZ}
-use mir.Facts.{and-yes}
 use borrow.Author.Tests.{le-leb, lt-leb, ne-eqb}
 use Rattle.arithmetic.specs.Floor.{⌊_÷_⌋}
 use Rattle.arithmetic.proofs.Difference.{abs-parts, to-le, to-lt, ⟨_⟩}
@@ -18,68 +17,13 @@ use Rattle.arithmetic.proofs.FloorLaws.{floor-most}
 use Rattle.arithmetic.proofs.Integers.{solveℤ}
 use Rattle.arithmetic.proofs.Sizes.{abs-mul, abs-neg, add-bound, mul-bound, sub-bound}
 use Rattle.arithmetic.proofs.Solver.{_:*_, _:+_, _:-_, con, k0, k1, x0, x1}
-use Rattle.arithmetic.proofs.Table.{at, every}
-use Rattle.exact.specs.Fraction.{_*q_, _+q_, _-q_, _over_, _≤q_, floor, inv, nat, negq, nn, whole, ℚ}
-use Rattle.exact.specs.Reference.{cos°, sin°}
-use Rattle.exact.proofs.Horner.{cos-horner, cos₄₀-is, horner, sin-horner, sin₄₀-is}
-use Rattle.exact.proofs.ReferenceLaws.{cosine-reference, plain, plain-is, radian, sine-reference}
-use Rattle.numbers.specs.Angle.{full-turn, half-turn, reduced}
-use Rattle.numbers.specs.Arctangent.{arctangent, no-direction, start, step, steps, turn-by}
-use Rattle.numbers.specs.ArctangentTable.{NearestArctangent, arctangents}
+use Rattle.number_rules.specs.Angle.{full-turn, half-turn, reduced}
+use Rattle.numbers.specs.Arctangent.{arctangent, no-direction, start, step, steps}
+use Rattle.number_rules.specs.ArctangentTable.{turn-by}
 use Rattle.numbers.specs.Whole.{by-sign, sign}
 use Rattle.numbers.specs.declared.arctangent.Turning.{Turning}
-use Rattle.numbers.proofs.SineLaws.{reduced-below}
-
--- ---- the table
-abbrev below : ℕ → ℚ
-below t = whole (pos (2 * t) -ℤ pos 1) over 200_000_000
-
-abbrev above : ℕ → ℚ
-above t = whole (pos (2 * t) +ℤ pos 1) over 200_000_000
-
--- half a unit either side, at angles that need no turn taken off
-test : ℕ → ℕ → Bool
-test k t =
-    (plain (below t) && plain (above t))
-    && (nn (cos-horner 20 (below t *q radian) -q sin-horner 20 (below t *q radian) *q nat (2 ^ k))
-    && nn (sin-horner 20 (above t *q radian) *q nat (2 ^ k) -q cos-horner 20 (above t *q radian)))
-
-tested : T (every test 0 0 arctangents)
-unfolding test plain arctangents sin-horner cos-horner horner floor ⌊_÷_⌋ nn whole inv _+q_ _*q_ negq
-tested = tt
-
-small-test : ℕ → ℕ → Bool
-small-test k t = leb t 4_500_000_000
-
-module _ (k : ℕ) (h : k < 30) where
-  passed : T (test k (turn-by k))
-  unfolding arctangents
-  passed = at test 0 arctangents tested k (omega arith)
-
-  -- the rule of 01
-  pub nearest-arctangent : NearestArctangent k (turn-by k)
-  unfolding test
-  nearest-arctangent =
-      let t = turn-by k in
-      let u = and-yes (plain (below t) && plain (above t)) _ passed in
-      let p = and-yes (plain (below t)) (plain (above t)) (u .0) in
-      let q = and-yes (nn (cos-horner 20 (below t *q radian) -q sin-horner 20 (below t *q radian) *q nat (2 ^ k))) _ (u .1) in
-      record {
-        not-above =
-            subst₂ (λ x y. x *q nat (2 ^ k) ≤q y) (sym (sine-of (below t) (p .0))) (sym (cosine-of (below t) (p .0))) (record { diff = record { is = q .0 } });
-        not-below =
-            subst₂ (λ x y. y ≤q x *q nat (2 ^ k)) (sym (sine-of (above t) (p .1))) (sym (cosine-of (above t) (p .1))) (record { diff = record { is = q .1 } });
-      }
-    where
-      sine-of : (x : ℚ) → T (plain x) → sin° x ≡ sin-horner 20 (x *q radian)
-      sine-of x t = plain-is sine-reference x t ∙ sin₄₀-is (x *q radian)
-
-      cosine-of : (x : ℚ) → T (plain x) → cos° x ≡ cos-horner 20 (x *q radian)
-      cosine-of x t = plain-is cosine-reference x t ∙ cos₄₀-is (x *q radian)
-
-  pub turn-small : turn-by k ≤ 4_500_000_000
-  unfolding arctangents small-test
-  turn-small = leb→le (turn-by k) 4_500_000_000 (at small-test 0 arctangents tt k (omega arith))
+use Rattle.number_rules.proofs.ArctangentTableLaws.{turn-small}
+use Rattle.number_rules.proofs.SineLaws.{reduced-below}
 
 -- ---- a step as the code takes it: by the sign of y, with no case
 module _ {A : Type 0} (p z n : A) where

@@ -1,13 +1,8 @@
 pub mod Machine
 pub mod WideProduct
-pub mod SineTableLaws
-pub mod SineSteps
-pub mod QuarterSine
-pub mod SineLaws
-pub mod SineNear
-pub mod SineSize
+pub mod AngleLaws
 pub mod RootLaws
-pub mod CalendarLaws
 pub mod ArctangentLaws
 pub mod LimbLaws
-pub mod CasesHold
+pub mod RefusalLaws
+pub mod DayCountLaws

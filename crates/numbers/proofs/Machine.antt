@@ -195,14 +195,6 @@ not-lt {a} {b} h = is-no (ltZ a b) (λ t. clashℤ (ltZ-yes t) h)
 pub not-le : {a b : ℤ} → b <ℤ a → leZ a b ≡ false
 not-le {a} {b} h = is-no (leZ a b) (λ t. clashℤ h (leZ-yes t))
 
-pub at-least : {k : ℕ} {z : ℤ} → pos k ≤ℤ z → k ≤ natAbs z
-at-least {k} {z = pos n} h = leb→le k n (h .le)
-at-least {k} {z = negsuc n} h = absurd (h .le)
-
-pub at-most : {j k : ℕ} {z : ℤ} → pos j ≤ℤ z → z ≤ℤ pos k → natAbs z ≤ k
-at-most {j} {k} {z = pos n} h l = leb→le n k (l .le)
-at-most {j} {k} {z = negsuc n} h l = absurd (h .le)
-
 -- what a cast of a parameter to `u64` asks, where the parameter is not below zero
 pub cast-up : {j : ℕ} {z : ℤ} → SFits w64 z → pos j ≤ℤ z → T (nonNeg (toZ w64 (ofZ w64 z))) × Fits w64 (natAbs (toZ w64 (ofZ w64 z)))
 cast-up {j} {z} f h =

@@ -3,16 +3,11 @@ use mathlib.Core.Bool.{cond}
 use Prim.Native.Nat.{ℕ, zero, suc, _+_, _^_}
 use lib.Dec.{eqb}
 use lib.IntN.{ℤ, pos, negsuc, negℤ, natAbs, _+ℤ_, _-ℤ_, _*ℤ_}
-use lib.ListN.{getD}
 use Rattle.arithmetic.specs.Floor.{⌊_÷_⌋}
 use Rattle.numbers.specs.declared.arctangent.Turning.{Turning}
 use Rattle.numbers.specs.Whole.{by-sign}
-use Rattle.numbers.specs.Angle.{half-turn, reduced}
-use Rattle.numbers.specs.ArctangentTable.{arctangents}
-
--- tₖ
-abbrev pub turn-by : ℕ → ℕ
-turn-by k = getD arctangents k 0
+use Rattle.number_rules.specs.Angle.{half-turn, reduced}
+use Rattle.number_rules.specs.ArctangentTable.{turn-by}
 
 -- step k, from the old pair
 unfoldable pub step : ℕ → Turning → Turning

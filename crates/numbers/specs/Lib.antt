@@ -1,10 +1,6 @@
 pub mod Whole
-pub mod Angle
-pub mod SineTable
-pub mod Sine
-pub mod ArctangentTable
 pub mod Arctangent
 pub mod Limbs
 pub mod Root
-pub mod Calendar
-pub mod Cases
+pub mod Refusal
+pub mod DayCount

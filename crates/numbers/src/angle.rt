@@ -1,7 +1,7 @@
 // Angles in 10⁻⁸ degree.
 use super::whole::floor_mod;
 ghost use mathlib.Core.Path.{_≡_};
-ghost use Rattle.numbers.specs.Angle.{reduced};
+ghost use Rattle.number_rules.specs.Angle.{reduced};
 
 // An angle brought to 0 up to but not a full turn.
 pub struct Angle {

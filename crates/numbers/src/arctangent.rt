@@ -7,8 +7,8 @@ ghost use Prim.Native.Nat.{_≤_, _<_, _^_};
 ghost use mathlib.Core.List.{map};
 ghost use lib.Dec.{leb};
 ghost use lib.IntN.{pos, natAbs};
-ghost use Rattle.numbers.specs.Angle.{reduced};
-ghost use Rattle.numbers.specs.ArctangentTable.{arctangents};
+ghost use Rattle.number_rules.specs.Angle.{reduced};
+ghost use Rattle.number_rules.specs.ArctangentTable.{arctangents};
 ghost use Rattle.numbers.specs.Arctangent.{step, steps, start, arctangent};
 
 // The angles whose tangents are 1, 1/2, 1/4, ..

@@ -1,12 +1,15 @@
 // The day count of a Gregorian date.
+use super::refusal::Refusal;
 ghost use mathlib.Core.Path.{_≡_};
 ghost use Prim.Native.Nat.{_≤_};
-ghost use Rattle.numbers.specs.Calendar.{leap, month-length, days-to-year, days-to-month, answer-of, day-count};
+ghost use Rattle.number_rules.specs.Calendar.{leap, month-length, days-to-year, days-to-month, day-count};
+ghost use Rattle.numbers.specs.DayCount.{count-answer};
+ghost use Rattle.numbers.specs.Refusal.{OneAnswer};
 
-// Days from 2000-01-01, or the number of the first refusal that applies.
+// Days from 2000-01-01, or the first refusal that applies.
 pub enum DayCount {
     Days(i64),
-    Refused(u8),
+    Refused(Refusal),
 }
 
 fn is_leap(y: u64) -> bool
@@ -55,31 +58,32 @@ fn days_to_month(y: u64, m: u64) -> u64
     n - 2
 }
 
-// For any numbers whatever: the day count, or refusal 1 (year), 2 (month) or 3 (day).
+// For any numbers whatever: the day count, or the first refusal that applies, year (1), month (2) or day (3).
 pub fn day_count(year: i64, month: i64, day: i64) -> DayCount
-    ensures { λ r. ⌜ answer-of r ≡ day-count year month day ⌝ }
+    ensures { λ r. ⌜ OneAnswer count-answer (day-count year month day) r ⌝ }
 {
     if year < 1900 {
-        return DayCount::Refused(1);
+        return DayCount::Refused(Refusal::Year);
     }
     if 2100 < year {
-        return DayCount::Refused(1);
+        return DayCount::Refused(Refusal::Year);
     }
     if month < 1 {
-        return DayCount::Refused(2);
+        return DayCount::Refused(Refusal::Month);
     }
     if 12 < month {
-        return DayCount::Refused(2);
+        return DayCount::Refused(Refusal::Month);
     }
     let y = year as u64;
     let m = month as u64;
     if day < 1 {
-        return DayCount::Refused(3);
+        return DayCount::Refused(Refusal::Day);
     }
     let d = day as u64;
     if month_length(y, m) < d {
-        return DayCount::Refused(3);
+        return DayCount::Refused(Refusal::Day);
     }
     let n = days_to_year(y) + days_to_month(y, m) + d;
-    DayCount::Days(n as i64 - 730_486)
+    let days = n as i64 - 730_486;
+    DayCount::Days(days)
 }

@@ -3,6 +3,7 @@ pub mod angle;
 pub mod arctangent;
 pub mod calendar;
 mod limbs;
+pub mod refusal;
 pub mod root;
 pub mod sine;
 pub mod sine_table;

@@ -3,9 +3,9 @@ use super::angle::Angle;
 use super::sine_table::table;
 ghost use mathlib.Core.Path.{_≡_};
 ghost use Prim.Native.Nat.{_+_, _%_, _≤_, _<_};
-ghost use Rattle.numbers.specs.Angle.{full-turn, half-turn, quarter-turn};
-ghost use Rattle.numbers.specs.SineTable.{sines};
-ghost use Rattle.numbers.specs.Sine.{quarter-sine, half-fold, fold, negated-from-half, sine-at, sine, cosine};
+ghost use Rattle.number_rules.specs.Angle.{full-turn, half-turn, quarter-turn};
+ghost use Rattle.number_rules.specs.SineTable.{sines};
+ghost use Rattle.number_rules.specs.Sine.{quarter-sine, half-fold, fold, negated-from-half, sine-at, sine, cosine};
 
 // The sine and the cosine of one angle.
 pub struct SineCosine {

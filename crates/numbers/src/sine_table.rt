@@ -1,6 +1,6 @@
 // The sine table: at each quarter degree from 0 to 90 the sine times 10⁹, to the nearest whole.
 ghost use mathlib.Core.Path.{_≡_};
-ghost use Rattle.numbers.specs.SineTable.{sines};
+ghost use Rattle.number_rules.specs.SineTable.{sines};
 
 const SINES: [u32; 361] = [
     0,

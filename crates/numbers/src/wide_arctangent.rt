@@ -10,8 +10,8 @@ ghost use mathlib.Core.Path.{_≡_};
 ghost use mathlib.Core.List.{map};
 ghost use Prim.Native.Nat.{_≤_, _<_, _^_};
 ghost use lib.IntN.{pos, natAbs};
-ghost use Rattle.numbers.specs.Angle.{reduced};
-ghost use Rattle.numbers.specs.ArctangentTable.{arctangents};
+ghost use Rattle.number_rules.specs.Angle.{reduced};
+ghost use Rattle.number_rules.specs.ArctangentTable.{arctangents};
 ghost use Rattle.numbers.specs.Arctangent.{step, steps, start};
 ghost use Rattle.numbers.specs.Limbs.{value, turning, Proper, Room};
 

@@ -17,17 +17,17 @@ use mir.ValLaws.{toZ-ofZ}
 use Rattle.arithmetic.proofs.Difference.{#_, _⊞_, _⊠_, by-le, by-lt, to-le, ⟨_⟩}
 use Rattle.arithmetic.proofs.Integers.{solveℤ}
 use Rattle.arithmetic.proofs.Solver.{_:+_, _:-_, x0, x1, x2, x3, x4, x5}
-use Rattle.numbers.proofs.CalendarLaws.{day-after-last-is}
+use Rattle.number_rules.proofs.CalendarLaws.{day-after-last-is}
 use Rattle.numbers.proofs.Machine.{not-holds}
-use Rattle.numbers.specs.Calendar.{day-count, day-number, days-from-2000, days-to-month, days-to-year, leap, month-length, year-length}
+use Rattle.number_rules.specs.Calendar.{day-count, day-number, days-from-2000, days-to-month, days-to-year, leap, month-length, year-length}
 use Rattle.sky.proofs.RequestLaws.{accepted}
 use Rattle.sky.specs.Batch.{filled, first-late, is-late, last-moment, later}
 use Rattle.sky.specs.Refusal.{first}
 use Rattle.sky.specs.Request.{date, elapsed, instant, start-refusals, utc}
-use Rattle.sky.specs.SkyRange.{Reachable}
+use Rattle.sky_vectors.specs.SkyRange.{Reachable}
 use Rattle.sky.specs.declared.request.Start.{Start}
-use Rattle.sums.proofs.AcceptedInstants.{clock-small, terrestrial-near, universal-near}
-use Rattle.sums.specs.Instant.{Accepted, day, furthest}
+use Rattle.sum_rules.proofs.AcceptedInstants.{clock-small, terrestrial-near, universal-near}
+use Rattle.sum_rules.specs.Instant.{Accepted, day, furthest}
 
 -- ---- the last moment
 pub last-is : last-moment ≡ pos (36_890 * day - 1)

@@ -1,11 +1,11 @@
 -- Every case by hand of 01 holds, in one statement over the list.
 use mathlib.Core.List.{List, [], _∷_, _++_, map}
 use mathlib.Core.Path.{refl}
-use Rattle.numbers.specs.Cases as Numbers
-use Rattle.numbers.proofs.CasesHold as NumbersHold
-use Rattle.numbers.proofs.CasesHold.{Each, more, none}
-use Rattle.sums.specs.Cases as Sums
-use Rattle.sums.proofs.CasesHold as SumsHold
+use Rattle.number_rules.specs.Cases as Numbers
+use Rattle.number_rules.proofs.CasesHold as NumbersHold
+use Rattle.number_rules.proofs.CasesHold.{Each, more, none}
+use Rattle.sum_rules.specs.Cases as Sums
+use Rattle.sum_rules.proofs.CasesHold as SumsHold
 use Rattle.sky.specs.Cases.{Case, Holds, cases, middles, of-numbers, of-sums}
 use Rattle.sky.specs.Heading.{clockwise, is-reduced, middle, middle-of}
 

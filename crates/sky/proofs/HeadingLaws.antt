@@ -9,7 +9,7 @@ use lib.IntN.{natAbs, negsuc, pos, ℤ}
 use lib.Signed.{leZ, ltZ}
 use mir.Facts.{and-yes}
 use borrow.Author.Tests.{eq-eqb, le-ltb, lt-ltb, ne-eqb}
-use Rattle.numbers.specs.Angle.{full-turn, half-turn}
+use Rattle.number_rules.specs.Angle.{full-turn, half-turn}
 use Rattle.sky.specs.Heading.{MiddleAnswer, clockwise, half-way, is-reduced, middle, middle-of}
 
 -- what a test of `is_reduced` tells

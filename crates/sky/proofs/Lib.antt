@@ -1,12 +1,6 @@
 pub mod RequestLaws
-pub mod SheetLaws
-pub mod PlacesLineLaws
 pub mod BatchLaws
 pub mod HeadingLaws
-pub mod SkySizes
-pub mod SkyMirror
-pub mod Parallax
-pub mod PlaceLaws
 pub mod DoubleMirror
 pub mod DoubleLaws
 pub mod RefractionLaws

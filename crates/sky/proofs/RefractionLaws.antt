@@ -8,11 +8,11 @@ use lib.Dec.{leb, leb→le}
 use lib.IntN.{_+ℤ_, negsuc, pos, ℤ}
 use Rattle.arithmetic.specs.Floor.{⌊_÷_⌋}
 use Rattle.arithmetic.proofs.Table.{at-part}
-use Rattle.numbers.specs.Angle.{quarter-turn}
-use Rattle.numbers.specs.Sine.{entry, fold, quarter-sine, radians, rest-cosine, rest-sine, sine, sine-at}
-use Rattle.numbers.specs.SineTable.{sines}
-use Rattle.numbers.proofs.SineLaws.{fold-low, half-high, half-low, reduced-same, sign-low}
-use Rattle.numbers.proofs.SineSteps.{radians-most, square-most}
+use Rattle.number_rules.specs.Angle.{quarter-turn}
+use Rattle.number_rules.specs.Sine.{entry, fold, quarter-sine, radians, rest-cosine, rest-sine, sine, sine-at}
+use Rattle.number_rules.specs.SineTable.{sines}
+use Rattle.number_rules.proofs.SineLaws.{fold-low, half-high, half-low, reduced-same, sign-low}
+use Rattle.number_rules.proofs.SineSteps.{radians-most, square-most}
 use Rattle.sky.specs.Refraction.{IsRefracted, raised}
 
 -- e + 511,000,000 is above zero

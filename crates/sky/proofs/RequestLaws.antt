@@ -15,15 +15,15 @@ use mir.Syntax.{w64}
 use mir.Val.{SFits, ofZ, toZ}
 use mir.ValLaws.{toZ-ofZ}
 use Rattle.arithmetic.proofs.Difference.{#_, _⊞_, _⊠_, by-le, by-lt, to-le, to-lt, ⊟_, ⟨_⟩}
-use Rattle.numbers.proofs.CalendarLaws.{accepted-days, day-after-last-is, first-day-is}
+use Rattle.number_rules.proofs.CalendarLaws.{accepted-days, day-after-last-is, first-day-is}
 use Rattle.sky.specs.Refusal.{_else_, _unless_, between, first}
 use Rattle.sky.specs.Request.{date, delta-limit, elapsed, instant, is-clock, point-refusals, start-refusals, ut1-limit}
-use Rattle.sky.specs.SkyRange.{OnEarth, Reachable}
-use Rattle.sky.specs.declared.request.Point.{Point}
+use Rattle.sky_vectors.specs.SkyRange.{OnEarth, Reachable}
+use Rattle.sky_vectors.specs.declared.station.Point.{Point}
 use Rattle.sky.specs.declared.request.Start.{Start}
-use Rattle.sums.proofs.AcceptedInstants.{terrestrial-near, universal-near}
-use Rattle.sums.specs.Instant.{Accepted, day, minus}
-use Rattle.sums.specs.Instant as Unit
+use Rattle.sum_rules.proofs.AcceptedInstants.{terrestrial-near, universal-near}
+use Rattle.sum_rules.specs.Instant.{Accepted, day, minus}
+use Rattle.sum_rules.specs.Instant as Unit
 
 -- a test of a number that a callee was handed
 pub tested : (lo x hi : ℤ) {r : Bool} → SFits w64 x → r ≡ between lo (toZ w64 (ofZ w64 x)) hi → between lo x hi ≡ r

@@ -15,13 +15,13 @@ use lib.Ieee.Scale.{finite}
 use lib.Signed.{ltZ}
 use mir.Facts.{and-yes}
 use borrow.Author.Tests.{le-ltb}
-use Rattle.numbers.specs.Sine.{fold, quarter-sine, sine}
+use Rattle.number_rules.specs.Sine.{fold, quarter-sine, sine}
 use Rattle.numbers.specs.declared.sine.SineCosine.{SineCosine}
 use Rattle.numbers.proofs.Machine.{lit, not-less}
-use Rattle.numbers.proofs.SineSize.{cosine-most, sine-most}
+use Rattle.number_rules.proofs.SineSize.{cosine-most, sine-most}
 use Rattle.sky.specs.Air.{temperature-passes}
 use Rattle.sky.specs.Double.{IsZero, _+d_, _*d_, double, nearest, zero-degrees}
-use Rattle.sky.specs.Product.{sine-cosine}
+use Rattle.sky_vectors.specs.Product.{sine-cosine}
 use Rattle.sky.specs.Refraction.{IsRefracted, ZeroAtZeroPressure, formula, lowest-refracted, measured-refraction, raised, refraction, refraction-in}
 use Rattle.sky.proofs.DoubleLaws.{AtLeast2, holds, quotient-finite, rounds-finite, rounds-from-2, zero-over, zero-times}
 use Rattle.sky.proofs.RefractionLaws.{raised-range, sine-above, sine-is}

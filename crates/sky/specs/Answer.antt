@@ -5,7 +5,7 @@ use Prim.Native.Nat.{ℕ, _<_}
 use lib.Dec.{eqb}
 use lib.IntN.{pos}
 use Rattle.sky.specs.Air.{air-refusals}
-use Rattle.sky.specs.Place.{place-at}
+use Rattle.sky_vectors.specs.Place.{place-at}
 use Rattle.sky.specs.Refusal.{first}
 use Rattle.sky.specs.Request.{instant, point-refusals, start-refusals}
 use Rattle.sky.specs.Shown.{nothing-shown, shown}
@@ -14,9 +14,9 @@ use Rattle.sky.specs.declared.answer.PlaceAnswer.{PlaceAnswer}
 use Rattle.sky.specs.declared.answer.PlaceAnswer.the-variants as Places
 use Rattle.sky.specs.declared.answer.ShownAnswer.{ShownAnswer}
 use Rattle.sky.specs.declared.answer.ShownAnswer.the-variants as Shows
-use Rattle.sky.specs.declared.place.Place.{Place}
-use Rattle.sky.specs.declared.request.Body.{Body}
-use Rattle.sky.specs.declared.request.Point.{Point}
+use Rattle.sky_vectors.specs.declared.place.Place.{Place}
+use Rattle.sky_vectors.specs.declared.geocentric.Body.{Body}
+use Rattle.sky_vectors.specs.declared.station.Point.{Point}
 use Rattle.sky.specs.declared.request.Start.{Start}
 use Rattle.sky.specs.declared.shown.Shown.{Shown}
 

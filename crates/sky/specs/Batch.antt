@@ -1,21 +1,22 @@
 -- Batch (01, "A request and its numbered refusals"): many samples from one start.
 use mathlib.Core.Bool.{Bool, _&&_, cond}
 use mathlib.Core.List.{List, [], _++_, _∷_, map}
-use Prim.Native.Nat.{_-_, suc, ℕ}
+use Prim.Native.Nat.{_-_, _<_, suc, ℕ}
 use lib.Dec.{eqb, leb}
 use lib.IntN.{_+ℤ_, pos, ℤ}
-use lib.ListN.{drop, length}
+use lib.ListN.{drop, getD, length}
 use lib.Signed.{ltZ}
-use Rattle.sky.specs.Place.{place-at}
+use Rattle.sky_vectors.specs.Place.{place-at}
+use Rattle.sky_vectors.specs.SkyRange.{Reachable}
 use Rattle.sky.specs.Refusal.{_unless_, first}
 use Rattle.sky.specs.Request.{point-refusals, start-refusals, utc}
 use Rattle.sky.specs.declared.batch.Batch.{Batch}
 use Rattle.sky.specs.declared.batch.Batch.the-variants.{Done, Late, Refused}
-use Rattle.sky.specs.declared.request.Body.{Body}
-use Rattle.sky.specs.declared.request.Point.{Point}
+use Rattle.sky_vectors.specs.declared.geocentric.Body.{Body}
+use Rattle.sky_vectors.specs.declared.station.Point.{Point}
 use Rattle.sky.specs.declared.request.Start.{Start}
-use Rattle.sums.specs.Instant.{second}
-use Rattle.sums.specs.declared.instant.Instant.{Instant}
+use Rattle.sum_rules.specs.Instant.{second}
+use Rattle.sum_rules.specs.declared.instant.Instant.{Instant}
 
 -- an answer in 01's numbers: the refusal, 0 where there is none; the index, 0 but for 13; the count, 0 where refused
 pub record BatchAnswer : Type 0 where
@@ -81,3 +82,7 @@ elevation-at body p start offset = place-at body p (later start offset) .elevati
 -- a buffer after the batch: as it was where the batch is refused
 abbrev pub left-in : BatchAnswer → (ℕ → ℤ) → List ℕ → List ℤ → List ℤ
 left-in answer entry offsets before = cond (eqb (answer .refusal) 0) (filled entry offsets before) before
+
+-- every sample is within reach
+pub record AllReachable (start : Instant) (offsets : List ℕ) : Type 0 where
+  pub each : (i : ℕ) → i < length offsets → Reachable (later start (getD offsets i 0))

@@ -2,8 +2,8 @@
 use mathlib.Core.List.{List, [], _∷_, _++_, map}
 use mathlib.Core.Path.{_≡_}
 use lib.IntN.{ℤ, pos}
-use Rattle.numbers.specs.Cases as Numbers
-use Rattle.sums.specs.Cases as Sums
+use Rattle.number_rules.specs.Cases as Numbers
+use Rattle.sum_rules.specs.Cases as Sums
 use Rattle.sky.specs.Heading.{MiddleAnswer, middle}
 
 pub data Case : Type 0 where

@@ -4,7 +4,7 @@ use Prim.Native.Nat.{ℕ, _+_, _-_, _/_, _%_}
 use lib.Dec.{eqb, ltb}
 use lib.IntN.{ℤ, pos, natAbs}
 use lib.Signed.{leZ, ltZ}
-use Rattle.numbers.specs.Angle.{full-turn, half-turn}
+use Rattle.number_rules.specs.Angle.{full-turn, half-turn}
 use Rattle.sky.specs.declared.heading.Middle.{Middle}
 use Rattle.sky.specs.declared.heading.Middle.the-variants.{Azimuth, Refused}
 

@@ -4,17 +4,7 @@ pub mod Double
 pub mod Air
 pub mod Batch
 pub mod Heading
-pub mod Product
-pub mod Vector
-pub mod Observer
-pub mod Horizon
-pub mod Geocentric
-pub mod Station
-pub mod Place
 pub mod Refraction
 pub mod Shown
 pub mod Answer
-pub mod Sheet
-pub mod PlacesLine
-pub mod SkyRange
 pub mod Cases

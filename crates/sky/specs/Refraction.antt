@@ -6,11 +6,11 @@ use lib.IntN.{_+ℤ_, natAbs, pos, ℤ}
 use lib.Ieee.{Float}
 use lib.Signed.{_≤ℤ_, ltZ}
 use Rattle.arithmetic.specs.Floor.{⌊_÷_⌋}
-use Rattle.numbers.specs.Angle.{quarter-turn}
+use Rattle.number_rules.specs.Angle.{quarter-turn}
 use Rattle.numbers.specs.declared.sine.SineCosine.{SineCosine}
 use Rattle.sky.specs.Air.{standard-pressure, standard-temperature, temperature-passes}
 use Rattle.sky.specs.Double.{IsZero, _+d_, _*d_, _/d_, double, nearest, zero-degrees}
-use Rattle.sky.specs.Product.{sine-cosine}
+use Rattle.sky_vectors.specs.Product.{sine-cosine}
 use Rattle.sky.specs.declared.air.Air.{Air}
 use Rattle.sky.specs.declared.air.Air.the-variants.{Measured, None, Standard}
 

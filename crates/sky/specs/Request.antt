@@ -3,11 +3,11 @@ use mathlib.Core.Bool.{Bool, _&&_}
 use mathlib.Core.List.{List, [], _∷_}
 use Prim.Native.Nat.{_*_, _-_, _/_, ℕ}
 use lib.IntN.{_*ℤ_, _+ℤ_, pos, ℤ}
-use Rattle.numbers.specs.Calendar.{DayAnswer, day-count}
-use Rattle.sums.specs.Instant.{day, minus, second, terrestrial-time, universal-time}
-use Rattle.sums.specs.declared.instant.Instant.{Instant}
+use Rattle.number_rules.specs.Calendar.{DayAnswer, day-count}
+use Rattle.sum_rules.specs.Instant.{day, minus, second, terrestrial-time, universal-time}
+use Rattle.sum_rules.specs.declared.instant.Instant.{Instant}
 use Rattle.sky.specs.Refusal.{_unless_, between}
-use Rattle.sky.specs.declared.request.Point.{Point}
+use Rattle.sky_vectors.specs.declared.station.Point.{Point}
 use Rattle.sky.specs.declared.request.Start.{Start}
 
 -- hour 0-23, minute 0-59, second 0-59, tenth 0-9

@@ -2,17 +2,12 @@
 use Prim.Native.Nat.{_≤_}
 use lib.IntN.{natAbs, pos, ℤ}
 use lib.Ieee.{Float}
-use Rattle.numbers.specs.Angle.{full-turn, quarter-turn}
+use Rattle.number_rules.specs.Angle.{full-turn, quarter-turn}
 use Rattle.sky.specs.Double.{_+d_, _/d_, double, zero-degrees}
 use Rattle.sky.specs.Refraction.{refraction}
 use Rattle.sky.specs.declared.air.Air.{Air}
-use Rattle.sky.specs.declared.place.Place.{Place}
+use Rattle.sky_vectors.specs.declared.place.Place.{Place}
 use Rattle.sky.specs.declared.shown.Shown.{Shown}
-
--- what every place keeps to
-pub record InTurns (place : Place) : Type 0 where
-  pub azimuth-size : natAbs (place .azimuth) ≤ full-turn
-  pub elevation-size : natAbs (place .elevation) ≤ quarter-turn
 
 -- whole units become degrees by one division by 10⁸
 unfoldable pub degrees : ℤ → Float

@@ -1,10 +1,10 @@
 // The place of a body, and the place as it is shown: the answer to any request, or the one refusal.
 use super::air::Air;
 use super::air::air_refusal;
-use super::place::Place;
-use super::place::place_at;
-use super::request::Body;
-use super::request::Point;
+use sky_vectors::place::Place;
+use sky_vectors::place::place_at;
+use sky_vectors::geocentric::Body;
+use sky_vectors::station::Point;
 use super::request::Start;
 use super::request::instant_of;
 use super::request::or_else;

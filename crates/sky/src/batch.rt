@@ -1,7 +1,7 @@
 // A batch of places into two lent buffers: nothing is written before every offset is judged.
-use super::place::place_at;
-use super::request::Body;
-use super::request::Point;
+use sky_vectors::place::place_at;
+use sky_vectors::geocentric::Body;
+use sky_vectors::station::Point;
 use super::request::Start;
 use super::request::instant_of;
 use super::request::or_else;
@@ -9,18 +9,18 @@ use super::request::point_refusal;
 use super::request::start_refusal;
 use super::request::utc_of;
 use numbers::sine_table::table;
-use sums::instant::DAY;
-use sums::instant::Instant;
+use sum_rules::instant::DAY;
+use sum_rules::instant::Instant;
 ghost use mathlib.Core.Path.{_≡_};
 ghost use Prim.Native.Nat.{_≤_, _^_};
 ghost use lib.IntN.{natAbs};
 ghost use lib.ListN.{length};
-ghost use Rattle.numbers.specs.SineTable.{sines};
+ghost use Rattle.number_rules.specs.SineTable.{sines};
 ghost use mathlib.Core.Bool.{_&&_};
 ghost use lib.Dec.{leb};
 ghost use Rattle.sky.specs.Refusal.{_unless_};
 ghost use Rattle.sky.specs.Request.{instant};
-ghost use Rattle.sky.specs.SkyRange.{OnEarth, Reachable, AllReachable};
+ghost use Rattle.sky_vectors.specs.SkyRange.{OnEarth, Reachable, AllReachable};
 ghost use Rattle.sky.specs.Batch.{answer-of, is-late, first-late, batch, later, filled, azimuth-at, elevation-at, left-in};
 
 // The count, one of 1 to 9 or 12, or the index of the first bad offset (13).

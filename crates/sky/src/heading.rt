@@ -2,7 +2,7 @@
 use numbers::angle::Angle;
 ghost use mathlib.Core.Path.{_≡_};
 ghost use Prim.Native.Nat.{_<_};
-ghost use Rattle.numbers.specs.Angle.{full-turn};
+ghost use Rattle.number_rules.specs.Angle.{full-turn};
 ghost use Rattle.sky.specs.Heading.{is-reduced, clockwise, half-way, middle, answer-of};
 
 pub enum Middle {

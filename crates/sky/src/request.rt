@@ -1,13 +1,14 @@
 // A start, a body and a point, the checks 1 to 9 on them, and the start's instant.
+use sky_vectors::station::Point;
 use numbers::calendar::DayCount;
 use numbers::calendar::day_count;
-use sums::instant::DAY;
-use sums::instant::Instant;
-use sums::instant::SECOND;
+use sum_rules::instant::DAY;
+use sum_rules::instant::Instant;
+use sum_rules::instant::SECOND;
 use sums::instant::instant_at;
 ghost use mathlib.Core.Path.{_≡_};
 ghost use mathlib.Core.Bool.{true};
-ghost use Rattle.numbers.specs.Calendar.{answer-of};
+ghost use Rattle.number_rules.specs.Calendar.{answer-of};
 ghost use Rattle.sky.specs.Refusal.{first, between, _else_};
 ghost use Rattle.sky.specs.Request.{date, is-clock, start-refusals, point-refusals, elapsed, utc, instant};
 
@@ -23,19 +24,6 @@ pub struct Start {
     pub fraction: i64,
     pub ut1: i64,
     pub delta: i64,
-}
-
-pub enum Body {
-    Sun,
-    Moon,
-}
-
-// Longitude east-positive and latitude in 10⁻⁷ degree, height in metres.
-#[repr(C)]
-pub struct Point {
-    pub longitude: i64,
-    pub latitude: i64,
-    pub height: i64,
 }
 
 // The last UT1 minus UTC and delta-T that are accepted, either way.

@@ -1,12 +1,12 @@
 // The place as it is shown, in degrees.
 use super::air::Air;
-use super::place::Place;
+use sky_vectors::place::Place;
 use super::refraction::refraction;
 ghost use mathlib.Core.Path.{_≡_};
 ghost use Prim.Native.Nat.{_≤_};
 ghost use lib.IntN.{natAbs};
-ghost use Rattle.numbers.specs.Angle.{full-turn};
-ghost use Rattle.numbers.specs.SineTable.{sines};
+ghost use Rattle.number_rules.specs.Angle.{full-turn};
+ghost use Rattle.number_rules.specs.SineTable.{sines};
 ghost use Rattle.sky.specs.Shown.{InTurns, degrees, shown};
 
 // The elevation has the refraction in it.

@@ -14,13 +14,13 @@ use Rattle.arithmetic.proofs.Sizes.{mul-bound}
 use Rattle.exact.proofs.LinearStep.{small}
 use Rattle.numbers.proofs.LimbLaws.{rest}
 use Rattle.numbers.proofs.WideProduct.{low}
-use Rattle.sums.specs.Instant.{furthest, millennium}
-use Rattle.sums.specs.Moon.{arguments, cosine-term, distance-sum, eccentricity, metres}
+use Rattle.sum_rules.specs.Instant.{furthest, millennium}
+use Rattle.sum_rules.specs.Moon.{arguments, cosine-term, distance-sum, eccentricity, metres}
 use Rattle.sums.specs.MoonRange.{spread}
-use Rattle.sums.specs.MoonTerms.{longitude-distance-terms}
-use Rattle.sums.specs.Sun.{R, down, group, row-value, series}
-use Rattle.sums.specs.SunTerms.{R-groups, R0, R1, R2, R3, R4}
-use Rattle.sums.specs.Table.{count, total}
+use Rattle.sum_rules.specs.MoonTerms.{longitude-distance-terms}
+use Rattle.sum_rules.specs.Sun.{R, down, group, row-value, series}
+use Rattle.sum_rules.specs.SunTerms.{R-groups, R0, R1, R2, R3, R4}
+use Rattle.sum_rules.specs.Table.{count, total}
 use Rattle.sums.proofs.InstantLaws.{floor-size}
 use Rattle.sums.proofs.MoonLaws.{cosine-term-most, eccentricity-slight}
 use Rattle.sums.proofs.SunLaws.{constant-value, down-most, level, row-value-most}

@@ -8,12 +8,12 @@ use lib.IntN.{_*ℤ_, _+ℤ_, natAbs, pos, ℤ}
 use Rattle.arithmetic.specs.Floor.{⌊_÷_⌋}
 use Rattle.arithmetic.proofs.FloorLaws.{floor-most}
 use Rattle.arithmetic.proofs.Sizes.{mul-bound}
-use Rattle.numbers.specs.Angle.{full-turn}
-use Rattle.numbers.proofs.SineLaws.{reduced-below}
-use Rattle.sums.specs.Instant.{Reached, century, day, furthest, minus, p2, p3, p4, powers, u, value}
-use Rattle.sums.specs.Sidereal.{mean}
-use Rattle.sums.specs.declared.instant.Polynomial.{Polynomial}
-use Rattle.sums.specs.declared.instant.Powers.{Powers}
+use Rattle.number_rules.specs.Angle.{full-turn}
+use Rattle.number_rules.proofs.SineLaws.{reduced-below}
+use Rattle.sum_rules.specs.Instant.{Reached, century, day, furthest, minus, p2, p3, p4, powers, u, value}
+use Rattle.sum_rules.specs.Sidereal.{mean}
+use Rattle.sum_rules.specs.declared.instant.Polynomial.{Polynomial}
+use Rattle.sum_rules.specs.declared.instant.Powers.{Powers}
 
 -- a floor of a number of at most m
 pub floor-size : (z : ℤ) (d : ℕ) {m k : ℕ} → natAbs z ≤ m → T (leb (m / d + 1) k) → natAbs ⌊ z ÷ d ⌋ ≤ k

@@ -7,15 +7,3 @@ pub mod NutationLaws
 pub mod SunLaws
 pub mod Distances
 pub mod PlaceSizes
-pub mod FloorsNear
-pub mod WeightedSum
-pub mod AnglesNear
-pub mod PowersNear
-pub mod MoonWeights
-pub mod MoonNear
-pub mod SunAngles
-pub mod SunNear
-pub mod Accurate
-pub mod TablesPinned
-pub mod CasesHold
-pub mod AcceptedInstants

@@ -13,19 +13,19 @@ use Rattle.arithmetic.specs.Floor.{⌊_÷_⌋}
 use Rattle.arithmetic.proofs.FloorLaws.{floor-most}
 use Rattle.arithmetic.proofs.Sizes.{abs-mul, add-bound, mul-bound}
 use Rattle.arithmetic.proofs.Table.{every}
-use Rattle.numbers.specs.Angle.{full-turn}
-use Rattle.numbers.specs.Sine.{cosine, sine}
+use Rattle.number_rules.specs.Angle.{full-turn}
+use Rattle.number_rules.specs.Sine.{cosine, sine}
 use Rattle.numbers.proofs.Machine.{Mirror, gave}
-use Rattle.numbers.proofs.SineSize.{cosine-most, sine-most}
-use Rattle.sums.specs.Instant.{furthest, minus, p2, u}
-use Rattle.sums.specs.Moon.{E, E2, added, arguments, cosine-term, eccentricity, row-angle, sine-term, weight}
+use Rattle.number_rules.proofs.SineSize.{cosine-most, sine-most}
+use Rattle.sum_rules.specs.Instant.{furthest, minus, p2, u}
+use Rattle.sum_rules.specs.Moon.{E, E2, added, arguments, cosine-term, eccentricity, row-angle, sine-term, weight}
 use Rattle.sums.specs.MoonRange.{Slight, Summable, Turns, row-bounds, spread}
-use Rattle.sums.specs.MoonTerms.{L′, M′, latitude-terms, longitude-distance-terms}
-use Rattle.sums.specs.Table.{column, count, total}
-use Rattle.sums.specs.declared.moon.Eccentricity.{Eccentricity}
+use Rattle.sum_rules.specs.MoonTerms.{L′, M′, latitude-terms, longitude-distance-terms}
+use Rattle.sum_rules.specs.Table.{column, count, total}
+use Rattle.sum_rules.specs.declared.moon.Eccentricity.{Eccentricity}
 use Rattle.sums.proofs.InstantLaws.{floor-size, p2-most, u-most, value-small}
 use Rattle.sums.proofs.TableLaws.{bounded-rows, bounded-test, total-size}
-use Rattle.sums.specs.MoonTerms as Of
+use Rattle.sum_rules.specs.MoonTerms as Of
 
 scaled : (l e : ℤ) → natAbs e ≤ 2 ^ 20 → natAbs ⌊ l *ℤ e ÷ 10_000 ⌋ ≤ 105 * natAbs l + 1
 scaled l e h = le-trans (floor-most (l *ℤ e) 10_000 (natAbs l * 2 ^ 20) (mul-bound l e (le-refl (natAbs l)) h)) (below (natAbs l))

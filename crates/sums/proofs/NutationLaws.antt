@@ -8,15 +8,15 @@ use lib.IntN.{_*ℤ_, natAbs, pos, ℤ}
 use Rattle.arithmetic.specs.Floor.{⌊_÷_⌋}
 use Rattle.arithmetic.proofs.FloorLaws.{floor-most}
 use Rattle.arithmetic.proofs.Sizes.{add-bound, mul-bound}
-use Rattle.numbers.specs.Angle.{full-turn}
-use Rattle.numbers.specs.Sine.{cosine, sine}
-use Rattle.numbers.proofs.SineSize.{cosine-most, sine-most}
-use Rattle.sums.specs.Instant.{furthest, u}
+use Rattle.number_rules.specs.Angle.{full-turn}
+use Rattle.number_rules.specs.Sine.{cosine, sine}
+use Rattle.number_rules.proofs.SineSize.{cosine-most, sine-most}
+use Rattle.sum_rules.specs.Instant.{furthest, u}
 use Rattle.sums.specs.MoonRange.{Turns}
-use Rattle.sums.specs.Nutation.{arguments, cosine-term, row-angle, sine-term, weight, Δε, Δψ}
+use Rattle.sum_rules.specs.Nutation.{arguments, cosine-term, row-angle, sine-term, weight, Δε, Δψ}
 use Rattle.sums.specs.NutationRange.{Summable, row-bounds, spread}
-use Rattle.sums.specs.NutationTerms.{X0, X1, X2, X3, X4, nutation-terms}
-use Rattle.sums.specs.Table.{column, count, total}
+use Rattle.sum_rules.specs.NutationTerms.{X0, X1, X2, X3, X4, nutation-terms}
+use Rattle.sum_rules.specs.Table.{column, count, total}
 use Rattle.sums.proofs.InstantLaws.{floor-size, u-most, value-small}
 use Rattle.sums.proofs.TableLaws.{bounded-rows, bounded-test, total-size}
 

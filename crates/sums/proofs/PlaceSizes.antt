@@ -7,20 +7,20 @@ use lib.ListN.{drop}
 use Rattle.arithmetic.proofs.FloorLaws.{floor-most, modulo-below}
 use Rattle.arithmetic.proofs.Sizes.{add-bound, mul-bound}
 use Rattle.arithmetic.specs.Floor.{_modulo_, ⌊_÷_⌋}
-use Rattle.numbers.proofs.SineLaws.{reduced-below}
-use Rattle.numbers.proofs.SineSize.{cosine-most}
-use Rattle.numbers.specs.Angle.{full-turn}
-use Rattle.numbers.specs.Sine.{cosine}
+use Rattle.number_rules.proofs.SineLaws.{reduced-below}
+use Rattle.number_rules.proofs.SineSize.{cosine-most}
+use Rattle.number_rules.specs.Angle.{full-turn}
+use Rattle.number_rules.specs.Sine.{cosine}
 use Rattle.sums.proofs.InstantLaws.{floor-size, mean-most}
 use Rattle.sums.proofs.SunLaws.{B-sound, group-most}
-use Rattle.sums.specs.Instant.{furthest, millennium}
+use Rattle.sum_rules.specs.Instant.{furthest, millennium}
 use Rattle.sums.specs.SunRange.{spread}
-use Rattle.sums.specs.MoonTerms.{L′}
-use Rattle.sums.specs.Sidereal.{apparent, mean}
-use Rattle.sums.specs.Sun.{B, down, group, latitude-degrees, longitude-degrees, series}
-use Rattle.sums.specs.SunTerms.{B-groups, B0}
-use Rattle.sums.specs.Table.{count}
-use Rattle.sums.specs.Moon as Moon
+use Rattle.sum_rules.specs.MoonTerms.{L′}
+use Rattle.sum_rules.specs.Sidereal.{apparent, mean}
+use Rattle.sum_rules.specs.Sun.{B, down, group, latitude-degrees, longitude-degrees, series}
+use Rattle.sum_rules.specs.SunTerms.{B-groups, B0}
+use Rattle.sum_rules.specs.Table.{count}
+use Rattle.sum_rules.specs.Moon as Moon
 
 pub moon-longitude-most : (n : ℤ) → Moon.longitude n ≤ full-turn
 unfolding Moon.longitude

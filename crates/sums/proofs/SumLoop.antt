@@ -9,7 +9,7 @@ use lib.ListN.{getD, length, take}
 use mir.Syntax.{w64}
 use mir.Val.{SFits, ofZ, toZ}
 use Rattle.numbers.proofs.Machine.{Mirror, _⊕_, bounded, fits, kept, of-bits, told}
-use Rattle.sums.specs.Table.{count, total}
+use Rattle.sum_rules.specs.Table.{count, total}
 use Rattle.sums.proofs.TableLaws.{count-row, take-all, total-most, total-next}
 
 module _

@@ -15,28 +15,20 @@ use Rattle.arithmetic.proofs.Integers.{solveℤ}
 use Rattle.arithmetic.proofs.Sizes.{add-bound, mul-bound}
 use Rattle.arithmetic.proofs.Solver.{_:*_, k0, x0}
 use Rattle.arithmetic.proofs.Table.{at, every}
-use Rattle.numbers.specs.Angle.{full-turn, reduced}
-use Rattle.numbers.specs.Sine.{cosine, fold, half-fold, negated-from-half, quarter-sine, sine, sine-at}
-use Rattle.numbers.specs.SineTable.{sines}
-use Rattle.numbers.proofs.SineSize.{cosine-most}
-use Rattle.sums.specs.Instant.{furthest, millennium, u}
-use Rattle.sums.specs.Sun.{down, group, phase, row-A, row-B, row-C, row-angle, row-value, series}
+use Rattle.number_rules.specs.Angle.{full-turn, reduced}
+use Rattle.number_rules.specs.Sine.{cosine, fold, half-fold, negated-from-half, quarter-sine, sine, sine-at}
+use Rattle.number_rules.specs.SineTable.{sines}
+use Rattle.number_rules.proofs.SineSize.{cosine-most}
+use Rattle.sum_rules.specs.Instant.{furthest, millennium, u}
+use Rattle.sum_rules.specs.Sun.{down, group, phase, row-A, row-B, row-C, row-angle, row-value, series}
 use Rattle.sums.specs.SunRange.{SmallRay, Summable, spread}
-use Rattle.sums.specs.SunTerms.{B-groups, B0, B1, L-groups, L0, L1, L2, L3, L4, L5, R-groups, R0, R1, R2, R3, R4}
-use Rattle.sums.specs.Table.{count}
+use Rattle.sum_rules.specs.SunTerms.{B-groups, B0, B1, L-groups, L0, L1, L2, L3, L4, L5, R-groups, R0, R1, R2, R3, R4}
+use Rattle.sum_rules.specs.Table.{count}
+use Rattle.sum_rules.proofs.ConstantRows.{angle-zero, cosine-zero}
 use Rattle.sums.proofs.InstantLaws.{floor-size, u-most}
 use Rattle.sums.proofs.TableLaws.{total-size}
 
--- a row (A, 0, 0) has the angle zero, and is 100 A
-pub angle-zero : (n : ℤ) → row-angle n 0 0 ≡ 0
-unfolding row-angle _modulo_ ⌊_÷_⌋
-angle-zero n =
-    ap (λ (z : ℤ). (pos 0 +ℤ ⌊ z ÷ millennium ⌋) modulo 628_318_531 * 5_729_577_951 / 100_000_000) (solveℤ (k0 :* x0) k0 (n ∷ []) tt)
-
-pub cosine-zero : cosine (pos 0) ≡ pos 1_000_000_000
-unfolding cosine sine reduced _modulo_ sine-at negated-from-half fold half-fold quarter-sine sines
-cosine-zero = refl
-
+-- a row (A, 0, 0) is 100 A
 hundred : (a : ℕ) → ⌊ pos a *ℤ pos 1_000_000_000 ÷ 10_000_000 ⌋ ≡ pos (100 * a)
 unfolding ⌊_÷_⌋
 hundred a = ap pos (part a)

@@ -11,7 +11,7 @@ use Rattle.arithmetic.proofs.Integers.{solveℤ}
 use Rattle.arithmetic.proofs.Sizes.{add-bound}
 use Rattle.arithmetic.proofs.Solver.{_:+_, k0, x0, x1, x2}
 use Rattle.arithmetic.proofs.Table.{at, every}
-use Rattle.sums.specs.Table.{Bounded, column, count, total}
+use Rattle.sum_rules.specs.Table.{Bounded, column, count, total}
 
 module _ {A : Type 0} where
   pub total-next : (f : A → ℤ) (rows : List A) (i : ℕ) (d : A) → i < length rows → total f (take (suc i) rows) ≡ total f (take i rows) +ℤ f (getD rows i d)

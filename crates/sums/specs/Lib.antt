@@ -1,16 +1,3 @@
-pub mod Instant
-pub mod Table
-pub mod MoonTerms
-pub mod Moon
 pub mod MoonRange
-pub mod SunTerms
-pub mod Sun
 pub mod SunRange
-pub mod NutationTerms
-pub mod Nutation
 pub mod NutationRange
-pub mod Sidereal
-pub mod ExactSums
-pub mod Accuracy
-pub mod Digest
-pub mod Cases

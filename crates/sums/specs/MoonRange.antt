@@ -3,9 +3,9 @@ use mathlib.Core.List.{List, [], _∷_}
 use Prim.Native.Nat.{ℕ, _+_, _*_, _^_, _≤_, _<_}
 use lib.IntN.{ℤ, natAbs}
 use lib.ListN.{getD, length}
-use Rattle.numbers.specs.Angle.{full-turn}
-use Rattle.sums.specs.Table.{Bounded, column, count}
-use Rattle.sums.specs.declared.moon.Eccentricity.{Eccentricity}
+use Rattle.number_rules.specs.Angle.{full-turn}
+use Rattle.sum_rules.specs.Table.{Bounded, column, count}
+use Rattle.sum_rules.specs.declared.moon.Eccentricity.{Eccentricity}
 
 pub record Turns (arguments : List ℤ) : Type 0 where
   pub within : (i : ℕ) → natAbs (column arguments i) ≤ full-turn

@@ -3,7 +3,7 @@ use mathlib.Core.List.{List, [], _∷_}
 use Prim.Native.Nat.{ℕ, _+_, _*_, _^_, _≤_, _<_}
 use lib.IntN.{ℤ, natAbs}
 use lib.ListN.{getD, length}
-use Rattle.sums.specs.Table.{Bounded, column, count}
+use Rattle.sum_rules.specs.Table.{Bounded, column, count}
 
 abbrev pub row-bounds : List ℕ
 row-bounds = 3 ∷ 3 ∷ 3 ∷ 3 ∷ 3 ∷ 2 ^ 18 ∷ 2 ^ 18 ∷ 2 ^ 18 ∷ 2 ^ 18 ∷ []

@@ -2,8 +2,8 @@
 use mathlib.Core.List.{List, [], _∷_}
 use Prim.Native.Nat.{ℕ, _+_, _*_, _^_, _≤_, _<_}
 use lib.ListN.{getD, length}
-use Rattle.sums.specs.Table.{count}
-use Rattle.sums.specs.Sun.{row-A, row-B, row-C}
+use Rattle.sum_rules.specs.Table.{count}
+use Rattle.sum_rules.specs.Sun.{row-A, row-B, row-C}
 
 pub record SmallRay (row : List ℕ) : Type 0 where
   pub constant : row-A row ≤ 2 ^ 40

@@ -3,48 +3,17 @@ use numbers::angle::Angle;
 use numbers::whole::absolute;
 use numbers::whole::floor_div;
 use numbers::whole::mul_div;
+use sum_rules::instant::CENTURY;
+use sum_rules::instant::DAY;
+use sum_rules::instant::FURTHEST;
+use sum_rules::instant::Instant;
+use sum_rules::instant::Polynomial;
+use sum_rules::instant::Powers;
 ghost use mathlib.Core.Path.{_≡_};
 ghost use Prim.Native.Nat.{_≤_, _^_};
 ghost use lib.Dec.{leb};
 ghost use lib.IntN.{pos, natAbs};
-ghost use Rattle.sums.specs.Instant.{universal-time, terrestrial-time, Accepted, furthest, powers, value, Suits, Reached};
-
-// The unit of time: so many to a second.
-pub const SECOND: u64 = 10;
-
-pub const DAY: u64 = 86_400 * SECOND;
-
-// A Julian century.
-pub const CENTURY: u64 = 36_525 * DAY;
-
-// No accepted instant lies further away.
-pub const FURTHEST: u64 = CENTURY * 1011 / 1000;
-
-// c0 + c1 T + c2 T² + s3 T³/k3 + s4 T⁴/k4.
-pub struct Polynomial {
-    pub c0: i64,
-    pub c1: i64,
-    pub c2: i64,
-    pub s3: i64,
-    pub k3: u64,
-    pub s4: i64,
-    pub k4: u64,
-}
-
-// An instant n, and u, p2, p3, p4 from it.
-pub struct Powers {
-    pub n: i64,
-    pub u: i64,
-    pub p2: i64,
-    pub p3: i64,
-    pub p4: i64,
-}
-
-// One moment in both scales: UT turns the Earth, TT moves the Sun and the Moon.
-pub struct Instant {
-    pub ut: i64,
-    pub tt: i64,
-}
+ghost use Rattle.sum_rules.specs.Instant.{universal-time, terrestrial-time, Accepted, furthest, powers, value, Suits, Reached};
 
 // UT of the days from 2000-01-01, the units of the day, and UT1 minus UTC.
 pub fn universal_time(days: i64, elapsed: i64, ut1: i64) -> i64

@@ -1,10 +1,11 @@
 // The Moon's sums: longitude, latitude and distance from the Earth's centre, before nutation.
-use super::instant::Polynomial;
-use super::instant::Powers;
+use sum_rules::moon::Eccentricity;
+use sum_rules::instant::Polynomial;
+use sum_rules::instant::Powers;
 use super::instant::powers_at;
 use super::instant::value_at;
-use super::moon_terms::latitude_terms;
-use super::moon_terms::longitude_distance_terms;
+use sum_tables::moon_terms::latitude_terms;
+use sum_tables::moon_terms::longitude_distance_terms;
 use super::terms::TermSums;
 use super::terms::cosine_term;
 use numbers::angle::Angle;
@@ -15,11 +16,11 @@ use numbers::whole::floor_div;
 ghost use mathlib.Core.Path.{_≡_};
 ghost use Prim.Native.Nat.{_≤_, _^_};
 ghost use lib.IntN.{natAbs};
-ghost use Rattle.numbers.specs.SineTable.{sines};
-ghost use Rattle.sums.specs.Instant.{furthest, Reached};
-ghost use Rattle.sums.specs.Accuracy.{MoonNear};
-ghost use Rattle.sums.specs.Table.{total};
-ghost use Rattle.sums.specs.Moon.{arguments, eccentricity, weight, row-angle, sine-term, cosine-term, added, longitude-added, latitude-added, longitude, latitude, metres};
+ghost use Rattle.number_rules.specs.SineTable.{sines};
+ghost use Rattle.sum_rules.specs.Instant.{furthest, Reached};
+ghost use Rattle.sum_rules.specs.Accuracy.{MoonNear};
+ghost use Rattle.sum_rules.specs.Table.{total};
+ghost use Rattle.sum_rules.specs.Moon.{arguments, eccentricity, weight, row-angle, sine-term, cosine-term, added, longitude-added, latitude-added, longitude, latitude, metres};
 ghost use Rattle.sums.specs.MoonRange.{Turns, Slight, SmallRow, Summable};
 
 // L'.
@@ -109,12 +110,6 @@ const THIRD: Polynomial = Polynomial {
     s4: 0,
     k4: 1,
 };
-
-// E and E2: the Earth's orbit is less and less eccentric.
-pub struct Eccentricity {
-    pub e: i64,
-    pub e2: i64,
-}
 
 // Before nutation: longitude and latitude in 10⁻⁸ degree, and metres from the Earth's centre.
 pub struct MoonPlace {

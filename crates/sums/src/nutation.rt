@@ -1,8 +1,8 @@
 // Nutation and obliquity.
-use super::instant::Polynomial;
-use super::instant::Powers;
+use sum_rules::instant::Polynomial;
+use sum_rules::instant::Powers;
 use super::instant::value_at;
-use super::nutation_terms::nutation_terms;
+use sum_tables::nutation_terms::nutation_terms;
 use super::terms::TermSums;
 use super::terms::cosine_term;
 use numbers::sine::sine_in;
@@ -10,11 +10,11 @@ use numbers::whole::floor_div;
 ghost use mathlib.Core.Path.{_≡_};
 ghost use Prim.Native.Nat.{_≤_, _^_};
 ghost use lib.IntN.{natAbs, _+ℤ_};
-ghost use Rattle.numbers.specs.SineTable.{sines};
-ghost use Rattle.sums.specs.Instant.{Reached};
-ghost use Rattle.sums.specs.Table.{total};
+ghost use Rattle.number_rules.specs.SineTable.{sines};
+ghost use Rattle.sum_rules.specs.Instant.{Reached};
+ghost use Rattle.sum_rules.specs.Table.{total};
 ghost use Rattle.sums.specs.MoonRange.{Turns};
-ghost use Rattle.sums.specs.Nutation.{arguments, row-angle, weight, sine-term, cosine-term, Δψ, Δε, mean-obliquity};
+ghost use Rattle.sum_rules.specs.Nutation.{arguments, row-angle, weight, sine-term, cosine-term, Δψ, Δε, mean-obliquity};
 ghost use Rattle.sums.specs.NutationRange.{SmallRow, Summable};
 
 // X0, the mean elongation of the Moon from the Sun.

@@ -1,7 +1,7 @@
 // Sidereal time at Greenwich, of UT.
-use super::instant::DAY;
-use super::instant::Instant;
-use super::instant::Powers;
+use sum_rules::instant::DAY;
+use sum_rules::instant::Instant;
+use sum_rules::instant::Powers;
 use super::instant::powers_at;
 use numbers::angle::Angle;
 use numbers::sine::cosine_in;
@@ -10,9 +10,9 @@ use numbers::whole::mul_div;
 ghost use mathlib.Core.Path.{_≡_};
 ghost use Prim.Native.Nat.{_≤_, _^_};
 ghost use lib.IntN.{natAbs};
-ghost use Rattle.numbers.specs.SineTable.{sines};
-ghost use Rattle.sums.specs.Instant.{furthest, Reached};
-ghost use Rattle.sums.specs.Sidereal.{mean, apparent};
+ghost use Rattle.number_rules.specs.SineTable.{sines};
+ghost use Rattle.sum_rules.specs.Instant.{furthest, Reached};
+ghost use Rattle.sum_rules.specs.Sidereal.{mean, apparent};
 
 // The mean sidereal time, reduced to one turn. The powers are those of UT.
 pub fn mean_at(t: Powers) -> u64

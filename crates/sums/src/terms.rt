@@ -3,8 +3,8 @@ use numbers::sine::cosine_in;
 ghost use mathlib.Core.Path.{_≡_};
 ghost use Prim.Native.Nat.{_≤_, _^_};
 ghost use lib.IntN.{natAbs, _*ℤ_};
-ghost use Rattle.numbers.specs.Sine.{cosine};
-ghost use Rattle.numbers.specs.SineTable.{sines};
+ghost use Rattle.number_rules.specs.Sine.{cosine};
+ghost use Rattle.number_rules.specs.SineTable.{sines};
 
 // What is summed by sine and by cosine.
 pub struct TermSums {

@@ -1,7 +1,7 @@
 -- `capi::raddlehue_cosine` meets its contract.
 use mathlib.Core.Path.{_∙_, ap}
 use borrow.Author.Needs.{needs}
-use Rattle.numbers.specs.Sine.{cosine}
+use Rattle.number_rules.specs.Sine.{cosine}
 use Rattle.numbers.proofs.Machine.{any, passed}
 use Rattle.capi.proofs.raddlehue_cosine.Statement.{statement}
 use Rattle.capi.proofs.raddlehue_cosine.Tie as tie

@@ -1,7 +1,7 @@
 -- `capi::raddlehue_day_count` meets its contract.
 use mathlib.Core.Path.{_∙_, _≡_, ap, sym}
 use borrow.Author.Needs.{needs}
-use Rattle.numbers.specs.Calendar.{DayAnswer, answer-of, day-count}
+use Rattle.number_rules.specs.Calendar.{DayAnswer, answer-of, day-count}
 use Rattle.numbers.proofs.Machine.{any, passed}
 use Rattle.capi.proofs.raddlehue_day_count.Statement.{statement}
 use Rattle.capi.proofs.raddlehue_day_count.Tie as tie

@@ -1,7 +1,7 @@
 -- `capi::raddlehue_sine` meets its contract.
 use mathlib.Core.Path.{_∙_, ap}
 use borrow.Author.Needs.{needs}
-use Rattle.numbers.specs.Sine.{sine}
+use Rattle.number_rules.specs.Sine.{sine}
 use Rattle.numbers.proofs.Machine.{any, passed}
 use Rattle.capi.proofs.raddlehue_sine.Statement.{statement}
 use Rattle.capi.proofs.raddlehue_sine.Tie as tie

@@ -3,8 +3,8 @@ use mathlib.Core.Path.{_∙_, ap, sym}
 use borrow.Author.Needs.{needs}
 use borrow.Author.Tests.{leb-true}
 use Rattle.numbers.proofs.Machine.{any}
-use Rattle.sums.specs.Sidereal.{mean}
-use Rattle.sums.specs.declared.instant.Powers.{Powers}
+use Rattle.sum_rules.specs.Sidereal.{mean}
+use Rattle.sum_rules.specs.declared.instant.Powers.{Powers}
 use Rattle.sums.proofs.InstantLaws.{reached}
 use Rattle.capi.proofs.Within.{tested}
 use Rattle.capi.proofs.instants.raddlehue_mean_sidereal.Statement.{statement}

@@ -7,9 +7,9 @@ use mir.Val.{ofZ, toZ}
 use borrow.Author.Needs.{needs}
 use borrow.Author.Tests.{leb-true}
 use Rattle.numbers.proofs.Machine.{Mirror, any, asked, passed, told}
-use Rattle.sums.specs.Instant.{furthest}
-use Rattle.sums.specs.Nutation.{mean-obliquity, obliquity, Δε, Δψ}
-use Rattle.sums.specs.declared.instant.Powers.{Powers}
+use Rattle.sum_rules.specs.Instant.{furthest}
+use Rattle.sum_rules.specs.Nutation.{mean-obliquity, obliquity, Δε, Δψ}
+use Rattle.sum_rules.specs.declared.instant.Powers.{Powers}
 use Rattle.sums.proofs.InstantLaws.{reached}
 use Rattle.sums.proofs.NutationLaws.{Δε-most}
 use Rattle.capi.proofs.Within.{tested}

@@ -2,8 +2,8 @@
 use mathlib.Core.Path.{_∙_, _≡_}
 use lib.IntN.{pos}
 use borrow.Author.Needs.{needs}
-use Rattle.numbers.specs.Angle.{quarter-turn}
-use Rattle.sums.specs.Instant.{minus}
+use Rattle.number_rules.specs.Angle.{quarter-turn}
+use Rattle.sum_rules.specs.Instant.{minus}
 use Rattle.sky.specs.Refusal.{between}
 use Rattle.sky.proofs.RequestLaws.{tested}
 use Rattle.capi.proofs.refractions.elevation_refusal.Statement.{statement}

@@ -6,9 +6,9 @@ use lib.IntN.{natAbs, pos, ℤ}
 use lib.Ieee as Ieee
 use borrow.Author.Needs.{needs}
 use borrow.Author.Tests.{eq-eqb, ne-eqb}
-use Rattle.numbers.specs.Angle.{quarter-turn}
+use Rattle.number_rules.specs.Angle.{quarter-turn}
 use Rattle.numbers.proofs.Machine.{any, handed}
-use Rattle.sums.specs.Instant.{minus}
+use Rattle.sum_rules.specs.Instant.{minus}
 use Rattle.sky.specs.Air.{air-refusals}
 use Rattle.sky.specs.Refraction.{refraction}
 use Rattle.sky.specs.Refusal.{between}

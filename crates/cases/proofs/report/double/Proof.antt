@@ -5,11 +5,11 @@ use lib.IntN.{pos}
 use native.Mathlib.Omega.{arith}
 use borrow.Author.Needs.{needs}
 use Rattle.numbers.proofs.Machine.{any, arg}
-use Rattle.numbers.specs.Angle.{full-turn}
+use Rattle.number_rules.specs.Angle.{full-turn}
 use Rattle.sky.proofs.DoubleMirror.{is-double}
 use Rattle.sky.proofs.RequestLaws.{between-size, tested}
 use Rattle.sky.specs.Refusal.{between}
-use Rattle.sums.specs.Instant.{minus}
+use Rattle.sum_rules.specs.Instant.{minus}
 use Rattle.cases.specs.Compare.{whole}
 use Rattle.cases.proofs.report.double.Statement.{statement}
 use Rattle.cases.proofs.report.double.Tie as tie

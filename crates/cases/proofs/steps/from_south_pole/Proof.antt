@@ -2,9 +2,9 @@
 use mathlib.Core.Path.{_∙_, refl}
 use borrow.Author.Needs.{needs}
 use Rattle.numbers.proofs.Machine.{any, passed}
-use Rattle.numbers.specs.Angle.{quarter-turn}
-use Rattle.sky.specs.Place.{place-of}
-use Rattle.sums.specs.Instant.{minus}
+use Rattle.number_rules.specs.Angle.{quarter-turn}
+use Rattle.sky_vectors.specs.Place.{place-of}
+use Rattle.sum_rules.specs.Instant.{minus}
 use lib.IntN.{pos}
 use Rattle.cases.proofs.steps.from_south_pole.Statement.{statement}
 use Rattle.cases.proofs.steps.from_south_pole.Tie as tie

@@ -3,10 +3,10 @@ use mathlib.Core.Path.{_∙_, ap, subst⁻¹}
 use borrow.Author.Needs.{needs}
 use Rattle.numbers.proofs.Machine.{Mirror, asked}
 use Rattle.sky.proofs.RequestLaws.{start-reachable}
-use Rattle.sky.proofs.SkyMirror.{field}
-use Rattle.sky.specs.SkyRange.{Reachable}
+use Rattle.sky_vectors.proofs.SkyMirror.{field}
+use Rattle.sky_vectors.specs.SkyRange.{Reachable}
 use Rattle.sums.proofs.InstantLaws.{reached}
-use Rattle.sums.specs.Instant.{powers}
+use Rattle.sum_rules.specs.Instant.{powers}
 use Rattle.cases.proofs.steps.moment_of.Statement.{statement}
 use Rattle.cases.proofs.steps.moment_of.Tie as tie
 

@@ -2,9 +2,9 @@
 use mathlib.Core.Path.{_∙_, ap}
 use borrow.Author.Needs.{needs}
 use Rattle.sky.proofs.RequestLaws.{on-earth}
-use Rattle.sky.specs.Geocentric.{geocentric}
-use Rattle.sky.specs.Station.{station}
-use Rattle.sums.specs.Nutation.{Δε, Δψ}
+use Rattle.sky_vectors.specs.Geocentric.{geocentric}
+use Rattle.sky_vectors.specs.Station.{station}
+use Rattle.sum_rules.specs.Nutation.{Δε, Δψ}
 use Rattle.cases.proofs.steps.steps_to.Statement.{statement}
 use Rattle.cases.proofs.steps.steps_to.Tie as tie
 

@@ -6,7 +6,7 @@ use lib.IntN.{natAbs}
 use mir.Syntax.{w64}
 use mir.Val.{ofZ, toZ}
 use borrow.Author.Needs.{needs}
-use Rattle.numbers.specs.Angle.{reduced}
+use Rattle.number_rules.specs.Angle.{reduced}
 use Rattle.numbers.specs.Arctangent.{arctangent, start, steps}
 use Rattle.numbers.proofs.ArctangentLaws.{both-zero, not-both}
 use Rattle.numbers.proofs.Machine.{any, is-zero, not-zero}

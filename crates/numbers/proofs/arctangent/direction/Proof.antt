@@ -5,7 +5,7 @@ use mir.Syntax.{w64}
 use mir.Val.{ofZ, toZ}
 use borrow.Author.Needs.{needs}
 use borrow.Author.Tests.{leb-true}
-use Rattle.numbers.specs.Angle.{reduced}
+use Rattle.number_rules.specs.Angle.{reduced}
 use Rattle.numbers.specs.Arctangent.{start, steps}
 use Rattle.numbers.proofs.Machine.{any}
 use Rattle.numbers.proofs.arctangent.direction.Statement.{statement}

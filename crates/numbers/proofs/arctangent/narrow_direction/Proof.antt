@@ -4,7 +4,7 @@ use Prim.Native.Nat.{_^_, _≤_}
 use lib.Dec.{lit≤}
 use lib.IntN.{natAbs}
 use borrow.Author.Needs.{needs}
-use Rattle.numbers.specs.Angle.{reduced}
+use Rattle.number_rules.specs.Angle.{reduced}
 use Rattle.numbers.specs.Arctangent.{start, steps}
 use Rattle.numbers.specs.declared.arctangent.Turning.{Turning}
 use Rattle.numbers.proofs.ArctangentLaws.{Sized, narrow-sized, start-sized}

@@ -5,7 +5,7 @@ use lib.IntN.{natAbs, pos, ℤ}
 use mir.Syntax.{w64}
 use mir.Val.{SFits}
 use borrow.Author.Needs.{needs}
-use Rattle.numbers.specs.Angle.{half-turn}
+use Rattle.number_rules.specs.Angle.{half-turn}
 use Rattle.numbers.proofs.ArctangentLaws.{start-left, start-right}
 use Rattle.numbers.proofs.Machine.{Mirror, _⊗_, arg, fits, kept, less, lit, minus, not-less}
 use Rattle.numbers.proofs.arctangent.started.Statement.{statement}

@@ -8,10 +8,10 @@ use lib.IntN.{pos, ℤ}
 use lib.ListN.{List·getD-map, getD}
 use borrow.Author.Needs.{needs}
 use Rattle.arithmetic.proofs.FloorLaws.{floor-small}
-use Rattle.numbers.specs.Arctangent.{turn-by}
-use Rattle.numbers.specs.ArctangentTable.{arctangents}
+use Rattle.number_rules.specs.ArctangentTable.{arctangents, turn-by}
+use Rattle.number_rules.proofs.ArctangentTableLaws.{turn-small}
 use Rattle.numbers.specs.Whole.{sign}
-use Rattle.numbers.proofs.ArctangentLaws.{sign-small, step-signed, turn-small}
+use Rattle.numbers.proofs.ArctangentLaws.{sign-small, step-signed}
 use Rattle.numbers.proofs.Machine.{Mirror, _⊕_, _⊖_, _⊗_, bounded, fits, gave, kept, shr-by, told}
 use Rattle.numbers.proofs.arctangent.stepped.Statement.{statement}
 use Rattle.numbers.proofs.arctangent.stepped.Tie as tie

@@ -4,7 +4,7 @@ use Prim.Native.Nat.{_-_, _<_, _^_, _≤_, ℕ}
 use native.Mathlib.Omega.{arith}
 use lib.IntN.{natAbs}
 use Rattle.numbers.specs.Arctangent.{step, steps}
-use Rattle.numbers.specs.ArctangentTable.{arctangents}
+use Rattle.number_rules.specs.ArctangentTable.{arctangents}
 use Rattle.numbers.specs.declared.arctangent.Turning.{Turning}
 use Rattle.numbers.proofs.ArctangentLaws.{Sized, narrow-sized, steps-next}
 use Rattle.numbers.proofs.arctangent.turned.Statement.{statement}

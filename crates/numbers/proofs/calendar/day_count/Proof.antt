@@ -6,9 +6,11 @@ use lib.IntN.{_-ℤ_, natAbs, pos, ℤ}
 use lib.Signed.{_≤ℤ_}
 use mir.Syntax.{w64}
 use mir.Val.{ofZ, toZ}
-use Rattle.numbers.specs.Calendar.{day-count, day-number, days-from-2000, days-to-month, days-to-year, month-length}
-use Rattle.numbers.proofs.CalendarLaws.{day-high, day-low, epoch, length-most, month-most, year-most}
-use Rattle.numbers.proofs.Machine.{Mirror, _⊖_, any, at-least, at-most, cast-up, fits, from-nat, is-le, kept, less, lit, nat-fits, not-le, not-less}
+use Rattle.number_rules.specs.Calendar.{day-count, day-number, days-from-2000, days-to-month, days-to-year, month-length}
+use Rattle.number_rules.proofs.CalendarLaws.{day-high, day-low, epoch, length-most, month-most, year-most}
+use Rattle.arithmetic.proofs.Sizes.{at-least, at-most}
+use Rattle.numbers.proofs.DayCountLaws.{one-count}
+use Rattle.numbers.proofs.Machine.{Mirror, _⊖_, any, cast-up, fits, from-nat, is-le, kept, less, lit, nat-fits, not-le, not-less}
 use Rattle.numbers.proofs.calendar.day_count.Statement.{statement}
 use Rattle.numbers.proofs.calendar.day_count.Tie as tie
 
@@ -40,42 +42,42 @@ day-above c = not-less (day (c .before .before .before .before .before)) (lit (p
 -- ---- the refusals
 returns : tie.Need-returns
 unfolding day-count
-returns c = simp (not-le (less (year (c .before)) (lit (pos 1900)) (c .if1 .taken)))
+returns c = one-count (simp (not-le (less (year (c .before)) (lit (pos 1900)) (c .if1 .taken))))
 
 returns-2 : tie.Need-returns-2
 unfolding day-count
 returns-2 c =
-    simp (is-le (year-above (c .before)), not-le (less (lit (pos 2100)) (year (c .before .before)) (c .if2 .taken)))
+    one-count (simp (is-le (year-above (c .before)), not-le (less (lit (pos 2100)) (year (c .before .before)) (c .if2 .taken))))
 
 returns-3 : tie.Need-returns-3
 unfolding day-count
 returns-3 c =
-    simp (
+    one-count (simp (
       is-le (year-above (c .before .before)),
       is-le (year-below (c .before)),
       not-le (less (month (c .before .before .before)) (lit (pos 1)) (c .if3 .taken)),
-    )
+    ))
 
 returns-4 : tie.Need-returns-4
 unfolding day-count
 returns-4 c =
-    simp (
+    one-count (simp (
       is-le (year-above (c .before .before .before)),
       is-le (year-below (c .before .before)),
       is-le (month-above (c .before)),
       not-le (less (lit (pos 12)) (month (c .before .before .before .before)) (c .if4 .taken)),
-    )
+    ))
 
 returns-5 : tie.Need-returns-5
 unfolding day-count
 returns-5 c =
-    simp (
+    one-count (simp (
       is-le (year-above (c .before .before .before .before)),
       is-le (year-below (c .before .before .before)),
       is-le (month-above (c .before .before)),
       is-le (month-below (c .before)),
       not-le (less (day (c .before .before .before .before .before)) (lit (pos 1)) (c .if5 .taken)),
-    )
+    ))
 
 -- ---- the parameters as natural numbers
 cast-y : tie.Need-cast-y
@@ -125,14 +127,14 @@ returns-6 c =
     let z = s e in
     let h : month-length (natAbs (z .args .year)) (natAbs (z .args .month)) < natAbs (z .args .day) =
     omega (arith, length-is (c .before), same-day e, c .if6 .taken) in
-    simp (
+    one-count (simp (
       is-le (year-above (e .before .before .before)),
       is-le (year-below (e .before .before)),
       is-le (month-above (e .before)),
       is-le (month-below e),
       is-le (day-above (c .before .before)),
       not-le (day-high (day-above (c .before .before)) h),
-    )
+    ))
 
 -- ---- the count
 module _ (c : tie.After-days-to-month) where
@@ -183,16 +185,17 @@ add-n c = omega (arith, total-in c)
 add-n-2 : tie.Need-add-n-2
 add-n-2 c = omega (arith, total-in c)
 
-cast-t12 : tie.Need-cast-t12
-cast-t12 c = nat-fits (total-in c) tt
+cast-days : tie.Need-cast-days
+cast-days c = nat-fits (total-in c) tt
 
-sub-t13 : tie.Need-sub-t13
-sub-t13 c = fits (count c) tt
+sub-days : tie.Need-sub-days
+sub-days c = fits (count c) tt
 
 returns-7 : tie.Need-returns-7
 unfolding day-count days-from-2000
 returns-7 c =
     let e = e₀ c in
+    one-count (
     ap (λ (z : ℤ). record { refusal = 0; days = z }) (kept (count c) tt .same ∙ (λ i. pos (total c i) -ℤ pos (epoch' i)))
     ∙ simp (
       is-le (year-above (e .before .before .before)),
@@ -201,7 +204,7 @@ returns-7 c =
       is-le (month-below e),
       is-le (day-above (c .before .before .before .before)),
       is-le (day-low (day-above (c .before .before .before .before)) (day-in c)),
-    )
+    ))
   where
     epoch' : 730486 ≡ day-number 2000 1 1
     epoch' = sym epoch
@@ -224,6 +227,6 @@ day-count-spec =
     days-to-month-requires
     add-n
     add-n-2
-    cast-t12
-    sub-t13
+    cast-days
+    sub-days
     returns-7)

@@ -2,7 +2,7 @@
 use mathlib.Core.Path.{_∙_, sym}
 use borrow.Author.Needs.{needs}
 use borrow.Author.Tests.{le-leb, lt-leb}
-use Rattle.numbers.proofs.CalendarLaws.{days-to-month-by}
+use Rattle.number_rules.proofs.CalendarLaws.{days-to-month-by}
 use Rattle.numbers.proofs.calendar.days_to_month.Statement.{statement}
 use Rattle.numbers.proofs.calendar.days_to_month.Tie as tie
 

@@ -1,7 +1,7 @@
 -- `numbers::calendar::days_to_year` meets its contract.
 use mathlib.Core.Path.{sym}
 use borrow.Author.Needs.{needs}
-use Rattle.numbers.proofs.CalendarLaws.{years-by}
+use Rattle.number_rules.proofs.CalendarLaws.{years-by}
 use Rattle.numbers.proofs.calendar.days_to_year.Statement.{statement}
 use Rattle.numbers.proofs.calendar.days_to_year.Tie as tie
 

@@ -1,6 +1,6 @@
 -- `numbers::calendar::is_leap` meets its contract.
 use borrow.Author.Tests.{eq-eqb, ne-eqb}
-use Rattle.numbers.specs.Calendar.{leap}
+use Rattle.number_rules.specs.Calendar.{leap}
 use Rattle.numbers.proofs.calendar.is_leap.Statement.{statement}
 use Rattle.numbers.proofs.calendar.is_leap.Tie as tie
 

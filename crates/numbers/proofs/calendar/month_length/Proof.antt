@@ -2,7 +2,7 @@
 use mathlib.Core.Path.{_∙_, sym}
 use borrow.Author.Needs.{needs}
 use borrow.Author.Tests.{eq-eqb, ne-eqb}
-use Rattle.numbers.proofs.CalendarLaws.{month-length-by}
+use Rattle.number_rules.proofs.CalendarLaws.{month-length-by}
 use Rattle.numbers.proofs.calendar.month_length.Statement.{statement}
 use Rattle.numbers.proofs.calendar.month_length.Tie as tie
 

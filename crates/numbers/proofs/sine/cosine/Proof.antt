@@ -1,7 +1,7 @@
 -- `numbers::sine::cosine` meets its contract.
 use mathlib.Core.Path.{_∙_, ap}
 use borrow.Author.Needs.{needs}
-use Rattle.numbers.specs.Sine.{cosine}
+use Rattle.number_rules.specs.Sine.{cosine}
 use Rattle.numbers.proofs.Machine.{any, passed}
 use Rattle.numbers.proofs.sine.cosine.Statement.{statement}
 use Rattle.numbers.proofs.sine.cosine.Tie as tie

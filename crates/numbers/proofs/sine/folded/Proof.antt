@@ -1,7 +1,7 @@
 -- `numbers::sine::folded` meets its contract.
 use mathlib.Core.Path.{_∙_, sym}
 use borrow.Author.Needs.{needs}
-use Rattle.numbers.proofs.SineLaws.{fold-high, fold-low}
+use Rattle.number_rules.proofs.SineLaws.{fold-high, fold-low}
 use Rattle.numbers.proofs.sine.folded.Statement.{statement}
 use Rattle.numbers.proofs.sine.folded.Tie as tie
 

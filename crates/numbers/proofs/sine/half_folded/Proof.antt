@@ -1,7 +1,7 @@
 -- `numbers::sine::half_folded` meets its contract.
 use mathlib.Core.Path.{sym}
 use borrow.Author.Needs.{needs}
-use Rattle.numbers.proofs.SineLaws.{half-high, half-low}
+use Rattle.number_rules.proofs.SineLaws.{half-high, half-low}
 use Rattle.numbers.proofs.sine.half_folded.Statement.{statement}
 use Rattle.numbers.proofs.sine.half_folded.Tie as tie
 

@@ -2,7 +2,7 @@
 use mathlib.Core.Path.{_∙_, sym}
 use borrow.Author.Needs.{needs}
 use Rattle.numbers.proofs.Machine.{fits, from-nat, kept, minus}
-use Rattle.numbers.proofs.SineLaws.{sign-high, sign-low}
+use Rattle.number_rules.proofs.SineLaws.{sign-high, sign-low}
 use Rattle.numbers.proofs.sine.negated_from_half.Statement.{statement}
 use Rattle.numbers.proofs.sine.negated_from_half.Tie as tie
 

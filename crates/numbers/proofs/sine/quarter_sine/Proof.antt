@@ -6,9 +6,9 @@ use native.Mathlib.Nat.{mul-le-mul}
 use native.Mathlib.Omega.{arith}
 use lib.ListN.{getD}
 use borrow.Author.Needs.{needs}
-use Rattle.numbers.specs.Sine.{entry, quarter-sine, radians, rest-cosine, rest-sine}
-use Rattle.numbers.proofs.SineSteps.{cosine-fits, cube-most, radians-most, rest-cosine-most, rest-sine-most, sine-fits, square-most}
-use Rattle.numbers.proofs.SineTableLaws.{entry-small}
+use Rattle.number_rules.specs.Sine.{entry, quarter-sine, radians, rest-cosine, rest-sine}
+use Rattle.number_rules.proofs.SineSteps.{cosine-fits, cube-most, radians-most, rest-cosine-most, rest-sine-most, sine-fits, square-most}
+use Rattle.number_rules.proofs.SineTableLaws.{entry-small}
 use Rattle.numbers.proofs.sine.quarter_sine.Statement.{statement}
 use Rattle.numbers.proofs.sine.quarter_sine.Tie as tie
 

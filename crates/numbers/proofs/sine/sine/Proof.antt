@@ -1,7 +1,7 @@
 -- `numbers::sine::sine` meets its contract.
 use mathlib.Core.Path.{_∙_, ap}
 use borrow.Author.Needs.{needs}
-use Rattle.numbers.specs.Sine.{sine}
+use Rattle.number_rules.specs.Sine.{sine}
 use Rattle.numbers.proofs.Machine.{any, passed}
 use Rattle.numbers.proofs.sine.sine.Statement.{statement}
 use Rattle.numbers.proofs.sine.sine.Tie as tie

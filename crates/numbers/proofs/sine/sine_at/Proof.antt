@@ -2,11 +2,11 @@
 use mathlib.Core.Path.{_∙_, _≡_, ap, subst⁻¹}
 use Prim.Native.Nat.{_≤_, ℕ}
 use borrow.Author.Needs.{needs}
-use Rattle.numbers.specs.Angle.{quarter-turn}
-use Rattle.numbers.specs.Sine.{fold, negated-from-half, quarter-sine, sine-at}
+use Rattle.number_rules.specs.Angle.{quarter-turn}
+use Rattle.number_rules.specs.Sine.{fold, negated-from-half, quarter-sine, sine-at}
 use Rattle.numbers.proofs.Machine.{passed}
-use Rattle.numbers.proofs.SineLaws.{fold-most}
-use Rattle.numbers.proofs.SineSize.{quarter-sine-most}
+use Rattle.number_rules.proofs.SineLaws.{fold-most}
+use Rattle.number_rules.proofs.SineSize.{quarter-sine-most}
 use Rattle.numbers.proofs.sine.sine_at.Statement.{statement}
 use Rattle.numbers.proofs.sine.sine_at.Tie as tie
 

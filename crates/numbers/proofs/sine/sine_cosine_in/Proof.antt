@@ -3,10 +3,11 @@ use mathlib.Core.Path.{_∙_, ap, sym}
 use Prim.Native.Nat.{_%_, _+_, ℕ}
 use native.Mathlib.Omega.{arith}
 use borrow.Author.Needs.{needs}
-use Rattle.numbers.specs.Angle.{full-turn, quarter-turn}
-use Rattle.numbers.specs.Sine.{sine, sine-at}
+use Rattle.number_rules.specs.Angle.{full-turn, quarter-turn}
+use Rattle.number_rules.specs.Sine.{sine, sine-at}
 use Rattle.numbers.proofs.Machine.{passed}
-use Rattle.numbers.proofs.SineLaws.{cosine-is, new-below, new-is}
+use Rattle.number_rules.proofs.SineLaws.{cosine-is}
+use Rattle.numbers.proofs.AngleLaws.{new-below, new-is}
 use Rattle.numbers.proofs.sine.sine_cosine_in.Statement.{statement}
 use Rattle.numbers.proofs.sine.sine_cosine_in.Tie as tie
 

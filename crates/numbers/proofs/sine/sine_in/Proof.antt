@@ -1,9 +1,9 @@
 -- `numbers::sine::sine_in` meets its contract.
 use mathlib.Core.Path.{_∙_, ap}
 use borrow.Author.Needs.{needs}
-use Rattle.numbers.specs.Sine.{sine, sine-at}
+use Rattle.number_rules.specs.Sine.{sine, sine-at}
 use Rattle.numbers.proofs.Machine.{passed}
-use Rattle.numbers.proofs.SineLaws.{new-below, new-is}
+use Rattle.numbers.proofs.AngleLaws.{new-below, new-is}
 use Rattle.numbers.proofs.sine.sine_in.Statement.{statement}
 use Rattle.numbers.proofs.sine.sine_in.Tie as tie
 

@@ -1,6 +1,6 @@
 -- `numbers::sine_table::table` meets its contract: the constant is the table of `specs/`.
 use mathlib.Core.Path.{refl}
-use Rattle.numbers.specs.SineTable.{sines}
+use Rattle.number_rules.specs.SineTable.{sines}
 use Rattle.numbers.proofs.sine_table.table.Statement.{statement}
 use Rattle.numbers.proofs.sine_table.table.Tie as tie
 

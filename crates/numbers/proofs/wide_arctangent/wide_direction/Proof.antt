@@ -2,7 +2,7 @@
 use mathlib.Core.Path.{_∙_, _≡_, ap, refl, subst⁻¹}
 use Prim.Native.Nat.{_^_}
 use borrow.Author.Needs.{needs}
-use Rattle.numbers.specs.Angle.{reduced}
+use Rattle.number_rules.specs.Angle.{reduced}
 use Rattle.numbers.specs.Arctangent.{start, steps}
 use Rattle.numbers.specs.Limbs.{turning}
 use Rattle.numbers.specs.declared.arctangent.Turning.{Turning}

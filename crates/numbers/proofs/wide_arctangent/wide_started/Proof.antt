@@ -9,7 +9,7 @@ use borrow.Author.Needs.{needs}
 use Rattle.arithmetic.proofs.Integers.{solveℤ}
 use Rattle.arithmetic.proofs.Sizes.{abs-neg, mul-bound}
 use Rattle.arithmetic.proofs.Solver.{_:*_, _:+_, con, k0, neg′, x0}
-use Rattle.numbers.specs.Angle.{half-turn}
+use Rattle.number_rules.specs.Angle.{half-turn}
 use Rattle.numbers.specs.Limbs.{Proper, limb, value}
 use Rattle.numbers.proofs.ArctangentLaws.{start-left, start-right}
 use Rattle.numbers.proofs.LimbLaws.{digit-proper}

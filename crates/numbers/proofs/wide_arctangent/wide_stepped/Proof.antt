@@ -13,11 +13,11 @@ use Rattle.arithmetic.proofs.FloorLaws.{floor-small}
 use Rattle.arithmetic.proofs.Integers.{solveℤ}
 use Rattle.arithmetic.proofs.Sizes.{add-bound, sub-bound}
 use Rattle.arithmetic.proofs.Solver.{_:*_, _:+_, _:-_, neg′, x0, x1, x2}
-use Rattle.numbers.specs.Arctangent.{turn-by}
-use Rattle.numbers.specs.ArctangentTable.{arctangents}
+use Rattle.number_rules.specs.ArctangentTable.{arctangents, turn-by}
 use Rattle.numbers.specs.Limbs.{Room, turning, value}
+use Rattle.number_rules.proofs.ArctangentTableLaws.{turn-small}
 use Rattle.numbers.specs.Whole.{sign}
-use Rattle.numbers.proofs.ArctangentLaws.{sign-small, signed-small, step-signed, turn-small}
+use Rattle.numbers.proofs.ArctangentLaws.{sign-small, signed-small, step-signed}
 use Rattle.numbers.proofs.Machine.{Mirror, _⊕_, _⊗_, fits, gave, kept, minus, told}
 use Rattle.numbers.proofs.wide_arctangent.wide_stepped.Statement.{statement}
 use Rattle.numbers.proofs.wide_arctangent.wide_stepped.Tie as tie

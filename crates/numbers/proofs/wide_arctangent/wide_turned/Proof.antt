@@ -8,7 +8,7 @@ use lib.Dec.{lit≤}
 use lib.IntN.{natAbs}
 use lib.Pow.{pow-mono}
 use Rattle.numbers.specs.Arctangent.{step, steps}
-use Rattle.numbers.specs.ArctangentTable.{arctangents}
+use Rattle.number_rules.specs.ArctangentTable.{arctangents}
 use Rattle.numbers.specs.Limbs.{Proper, turning, value}
 use Rattle.numbers.specs.declared.arctangent.Turning.{Turning}
 use Rattle.numbers.specs.declared.wide_arctangent.WideTurning.{WideTurning}

@@ -6,12 +6,12 @@ use borrow.Author.Tests.{eq-eqb, ne-eqb}
 use Rattle.sky.proofs.RequestLaws.{on-earth, point-passes, start-passes, start-reachable}
 use Rattle.sky.specs.Air.{air-refusals}
 use Rattle.sky.specs.Answer.{request-refusals}
-use Rattle.sky.specs.Place.{place-at}
+use Rattle.sky_vectors.specs.Place.{place-at}
 use Rattle.sky.specs.Answer.{place}
 use Rattle.sky.specs.Refusal.{first}
 use Rattle.sky.specs.Request.{point-refusals, start-refusals}
-use Rattle.sky.specs.SkyRange.{Reachable}
-use Rattle.sums.specs.Instant.{value}
+use Rattle.sky_vectors.specs.SkyRange.{Reachable}
+use Rattle.sum_rules.specs.Instant.{value}
 use Rattle.sky.proofs.answer.place.Statement.{statement}
 use Rattle.sky.proofs.answer.place.Tie as tie
 

@@ -2,16 +2,16 @@
 use mathlib.Core.Path.{_∙_, _≡_, ap, subst⁻¹, sym}
 use borrow.Author.Needs.{needs}
 use borrow.Author.Tests.{eq-eqb, ne-eqb}
-use Rattle.sky.proofs.PlaceLaws.{place-at-in-turns}
+use Rattle.sky_vectors.proofs.PlaceLaws.{place-at-in-turns}
 use Rattle.sky.proofs.RequestLaws.{on-earth, point-passes, start-passes, start-reachable}
 use Rattle.sky.specs.Air.{air-refusals}
 use Rattle.sky.specs.Answer.{request-refusals, shown-place}
-use Rattle.sky.specs.Place.{place-at}
+use Rattle.sky_vectors.specs.Place.{place-at}
 use Rattle.sky.specs.Refusal.{first}
 use Rattle.sky.specs.Request.{instant, point-refusals, start-refusals}
 use Rattle.sky.specs.Shown.{InTurns, shown}
-use Rattle.sky.specs.SkyRange.{Reachable}
-use Rattle.sums.specs.Instant.{value}
+use Rattle.sky_vectors.specs.SkyRange.{Reachable}
+use Rattle.sum_rules.specs.Instant.{value}
 use Rattle.sky.proofs.answer.shown_place.Statement.{statement}
 use Rattle.sky.proofs.answer.shown_place.Tie as tie
 

@@ -8,9 +8,9 @@ use mir.Syntax.{w64}
 use mir.Val.{SFits}
 use Rattle.sky.proofs.BatchLaws.{filled-all, filled-none, stored}
 use Rattle.sky.specs.Batch.{azimuth-at, elevation-at, filled, later}
-use Rattle.sky.specs.Place.{place-at}
-use Rattle.sky.specs.SkyRange.{Reachable}
-use Rattle.sky.specs.declared.place.Place.{Place}
+use Rattle.sky_vectors.specs.Place.{place-at}
+use Rattle.sky_vectors.specs.SkyRange.{Reachable}
+use Rattle.sky_vectors.specs.declared.place.Place.{Place}
 use Rattle.sky.proofs.batch.fill.Statement.{statement}
 use Rattle.sky.proofs.batch.fill.Tie as tie
 

@@ -16,10 +16,10 @@ use Rattle.sky.proofs.RequestLaws.{first-of, first-one, on-earth, point
 use Rattle.sky.specs.Batch.{azimuth-at, batch, elevation-at, filled, first-late, room-refusals}
 use Rattle.sky.specs.Refusal.{_else_, _unless_, first}
 use Rattle.sky.specs.Request.{instant, point-refusals, start-refusals, utc}
-use Rattle.sky.specs.SkyRange.{AllReachable}
-use Rattle.sky.specs.declared.request.Point.{Point}
+use Rattle.sky_vectors.specs.SkyRange.{AllReachable}
+use Rattle.sky_vectors.specs.declared.station.Point.{Point}
 use Rattle.sky.specs.declared.request.Start.{Start}
-use Rattle.sums.specs.declared.instant.Instant.{Instant}
+use Rattle.sum_rules.specs.declared.instant.Instant.{Instant}
 use Rattle.sky.proofs.RequestLaws as RequestLaws
 use Rattle.sky.proofs.batch.places_at.Statement.{statement}
 use Rattle.sky.proofs.batch.places_at.Tie as tie

@@ -4,7 +4,7 @@ use mathlib.Core.Path.{_∙_, ap, sym}
 use lib.IntN.{pos, ℤ}
 use lib.Signed.{ltZ}
 use borrow.Author.Needs.{needs}
-use Rattle.numbers.specs.Angle.{full-turn}
+use Rattle.number_rules.specs.Angle.{full-turn}
 use Rattle.numbers.proofs.Machine.{any, is-le, less, lit, not-le, not-less}
 use Rattle.sky.specs.Heading.{is-reduced}
 use Rattle.sky.proofs.heading.is_reduced.Statement.{statement}

@@ -5,7 +5,7 @@ use Prim.Native.Nat.{_-_, _<_, _≤_, ℕ}
 use native.Mathlib.Omega.{arith}
 use lib.IntN.{natAbs, ℤ}
 use borrow.Author.Needs.{needs}
-use Rattle.numbers.specs.Angle.{full-turn, half-turn}
+use Rattle.number_rules.specs.Angle.{full-turn, half-turn}
 use Rattle.numbers.proofs.Machine.{Mirror, any, to-nat}
 use Rattle.sky.specs.Heading.{clockwise, half-way, is-reduced, middle, middle-of}
 use Rattle.sky.proofs.HeadingLaws.{ahead, behind, below-turn, both-reduced, clockwise-below, first-refused, natural, no-test, opposite, second-refused, yes-test}

@@ -2,7 +2,7 @@
 use lib.Ieee as Ieee
 use Rattle.sky.specs.Refraction.{formula}
 use Rattle.sky.proofs.DoubleMirror.{is-double}
-use Rattle.sky.proofs.SkyMirror.{cosine-in, sine-in}
+use Rattle.sky_vectors.proofs.SkyMirror.{cosine-in, sine-in}
 use Rattle.sky.proofs.refraction.formula.Statement.{statement}
 use Rattle.sky.proofs.refraction.formula.Tie as tie
 

@@ -2,9 +2,9 @@
 use mathlib.Core.Path.{_∙_, ap}
 use borrow.Author.Needs.{needs}
 use Rattle.numbers.proofs.Machine.{arg, passed}
-use Rattle.sky.specs.Product.{sine-cosine}
+use Rattle.sky_vectors.specs.Product.{sine-cosine}
 use Rattle.sky.specs.Refraction.{formula, measured-refraction, raised}
-use Rattle.sky.proofs.SkySizes.{gave-one-angle, gave-sine-cosine}
+use Rattle.sky_vectors.proofs.SkySizes.{gave-one-angle, gave-sine-cosine}
 use Rattle.sky.proofs.refraction.measured_refraction.Statement.{statement}
 use Rattle.sky.proofs.refraction.measured_refraction.Tie as tie
 

@@ -4,7 +4,7 @@ use borrow.Author.Needs.{needs}
 use mir.Syntax.{w64}
 use mir.Val.{SFits}
 use Rattle.numbers.proofs.Machine.{any}
-use Rattle.numbers.specs.Calendar.{day-count}
+use Rattle.number_rules.specs.Calendar.{day-count}
 use Rattle.sky.specs.declared.request.Start.{Start}
 use Rattle.sky.proofs.request.date_of.Statement.{statement}
 use Rattle.sky.proofs.request.date_of.Tie as tie

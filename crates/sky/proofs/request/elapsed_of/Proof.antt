@@ -4,10 +4,10 @@ use lib.IntN.{pos}
 use borrow.Author.Needs.{needs}
 use Rattle.numbers.proofs.Machine.{Mirror, _⊕_, _⊗_, fits, kept, lit}
 use Rattle.sky.proofs.RequestLaws.{Clock, between-size, clock}
-use Rattle.sky.proofs.SkyMirror.{field}
+use Rattle.sky_vectors.proofs.SkyMirror.{field}
 use Rattle.sky.specs.Request.{elapsed}
 use Rattle.sky.specs.declared.request.Start.{Start}
-use Rattle.sums.specs.Instant as Unit
+use Rattle.sum_rules.specs.Instant as Unit
 use Rattle.sky.proofs.request.elapsed_of.Statement.{statement}
 use Rattle.sky.proofs.request.elapsed_of.Tie as tie
 

@@ -5,11 +5,11 @@ use mir.Syntax.{w64}
 use mir.Val.{SFits, ofZ, toZ}
 use mir.ValLaws.{toZ-ofZ}
 use Rattle.numbers.proofs.Machine.{passed}
-use Rattle.numbers.specs.Calendar.{DayAnswer}
+use Rattle.number_rules.specs.Calendar.{DayAnswer}
 use Rattle.sky.proofs.RequestLaws.{accepted, clock-passes}
 use Rattle.sky.specs.Request.{date, elapsed, instant}
 use Rattle.sky.specs.declared.request.Start.{Start}
-use Rattle.sums.specs.Instant.{terrestrial-time, universal-time}
+use Rattle.sum_rules.specs.Instant.{terrestrial-time, universal-time}
 use Rattle.sky.proofs.request.instant_of.Statement.{statement}
 use Rattle.sky.proofs.request.instant_of.Tie as tie
 

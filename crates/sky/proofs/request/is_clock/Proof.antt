@@ -10,7 +10,7 @@ use Rattle.sky.proofs.RequestLaws.{tested}
 use Rattle.sky.specs.Refusal.{between}
 use Rattle.sky.specs.Request.{is-clock}
 use Rattle.sky.specs.declared.request.Start.{Start}
-use Rattle.sums.specs.Instant as Instant
+use Rattle.sum_rules.specs.Instant as Instant
 use Rattle.sky.proofs.request.is_clock.Statement.{statement}
 use Rattle.sky.proofs.request.is_clock.Tie as tie
 

@@ -8,7 +8,7 @@ use mir.Val.{SFits}
 use Rattle.sky.proofs.RequestLaws.{tested}
 use Rattle.sky.specs.Refusal.{between, first}
 use Rattle.sky.specs.declared.request.Start.{Start}
-use Rattle.sums.specs.Instant.{minus}
+use Rattle.sum_rules.specs.Instant.{minus}
 use Rattle.sky.proofs.request.point_refusal.Statement.{statement}
 use Rattle.sky.proofs.request.point_refusal.Tie as tie
 

@@ -5,12 +5,12 @@ use borrow.Author.Needs.{needs}
 use borrow.Author.Tests.{eq-eqb, ne-eqb, not-false, not-true}
 use mir.Syntax.{w64}
 use mir.Val.{SFits}
-use Rattle.numbers.specs.Calendar.{DayAnswer}
+use Rattle.number_rules.specs.Calendar.{DayAnswer}
 use Rattle.sky.proofs.RequestLaws.{tested}
 use Rattle.sky.specs.Refusal.{between, first}
 use Rattle.sky.specs.Request.{date, delta-limit, is-clock, ut1-limit}
 use Rattle.sky.specs.declared.request.Start.{Start}
-use Rattle.sums.specs.Instant.{minus}
+use Rattle.sum_rules.specs.Instant.{minus}
 use Rattle.sky.proofs.request.start_refusal.Statement.{statement}
 use Rattle.sky.proofs.request.start_refusal.Tie as tie
 

@@ -3,12 +3,12 @@ use mathlib.Core.Path.{_∙_, ap}
 use lib.IntN.{pos}
 use borrow.Author.Needs.{needs}
 use Rattle.numbers.proofs.Machine.{Mirror, _⊕_, _⊗_, fits, gave, kept, lit}
-use Rattle.numbers.specs.Calendar.{DayAnswer}
+use Rattle.number_rules.specs.Calendar.{DayAnswer}
 use Rattle.sky.proofs.RequestLaws.{accepted, clock-passes}
 use Rattle.sky.specs.Request.{utc}
 use Rattle.sky.specs.declared.request.Start.{Start}
-use Rattle.sums.proofs.AcceptedInstants.{days-small, elapsed-small}
-use Rattle.sums.specs.Instant.{day}
+use Rattle.sum_rules.proofs.AcceptedInstants.{days-small, elapsed-small}
+use Rattle.sum_rules.specs.Instant.{day}
 use Rattle.sky.proofs.request.utc_of.Statement.{statement}
 use Rattle.sky.proofs.request.utc_of.Tie as tie
 

@@ -5,7 +5,7 @@ use Rattle.numbers.proofs.Machine.{Mirror, asked}
 use Rattle.sky.specs.Double.{_+d_}
 use Rattle.sky.specs.Refraction.{refraction}
 use Rattle.sky.specs.Shown.{degrees, shown}
-use Rattle.sky.proofs.SkyMirror.{field}
+use Rattle.sky_vectors.proofs.SkyMirror.{field}
 use Rattle.sky.proofs.shown.shown_at.Statement.{statement}
 use Rattle.sky.proofs.shown.shown_at.Tie as tie
 

@@ -1,8 +1,8 @@
 -- `sums::instant::instant_at` meets its contract.
 use mathlib.Core.Path.{_∙_}
 use Rattle.numbers.proofs.Machine.{Mirror, arg, asked, gave, passed}
-use Rattle.sums.specs.Instant.{terrestrial-time, universal-time}
-use Rattle.sums.proofs.AcceptedInstants.{days-small, elapsed-small, universal-near, ut1-most}
+use Rattle.sum_rules.specs.Instant.{terrestrial-time, universal-time}
+use Rattle.sum_rules.proofs.AcceptedInstants.{days-small, elapsed-small, universal-near, ut1-most}
 use Rattle.sums.proofs.instant.instant_at.Statement.{statement}
 use Rattle.sums.proofs.instant.instant_at.Tie as tie
 

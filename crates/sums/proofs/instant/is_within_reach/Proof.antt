@@ -5,7 +5,7 @@ use lib.Dec.{leb}
 use lib.IntN.{natAbs}
 use borrow.Author.Needs.{needs}
 use Rattle.numbers.proofs.Machine.{any}
-use Rattle.sums.specs.Instant.{furthest}
+use Rattle.sum_rules.specs.Instant.{furthest}
 use Rattle.sums.proofs.instant.is_within_reach.Statement.{statement}
 use Rattle.sums.proofs.instant.is_within_reach.Tie as tie
 

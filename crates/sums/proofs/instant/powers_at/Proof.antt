@@ -2,7 +2,7 @@
 use lib.IntN.{pos}
 use borrow.Author.Needs.{needs}
 use Rattle.numbers.proofs.Machine.{Mirror, _⊗_, arg, fits, floor-gave, kept, lit}
-use Rattle.sums.specs.Instant.{century, p2, p3, p4, u}
+use Rattle.sum_rules.specs.Instant.{century, p2, p3, p4, u}
 use Rattle.sums.proofs.instant.powers_at.Statement.{statement}
 use Rattle.sums.proofs.instant.powers_at.Tie as tie
 

@@ -3,7 +3,7 @@ use Prim.Native.Nat.{_/_}
 use lib.IntN.{pos}
 use borrow.Author.Needs.{needs}
 use Rattle.numbers.proofs.Machine.{Mirror, _⊕_, _⊖_, _⊗_, arg, fits, kept, lit}
-use Rattle.sums.specs.Instant.{day}
+use Rattle.sum_rules.specs.Instant.{day}
 use Rattle.sums.proofs.instant.universal_time.Statement.{statement}
 use Rattle.sums.proofs.instant.universal_time.Tie as tie
 

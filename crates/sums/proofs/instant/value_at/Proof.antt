@@ -4,13 +4,13 @@ use Prim.Native.Nat.{_≤_}
 use native.Mathlib.Omega.{arith}
 use lib.IntN.{natAbs, pos, ℤ}
 use borrow.Author.Needs.{needs}
-use Rattle.numbers.specs.Angle.{full-turn, reduced}
+use Rattle.number_rules.specs.Angle.{full-turn, reduced}
 use Rattle.numbers.proofs.Machine.{Mirror, _⊕_, _⊗_, fits, floor-gave, from-nat, kept, lit, nat-fits, small-floor-gave, told}
-use Rattle.numbers.proofs.SineLaws.{reduced-below}
+use Rattle.number_rules.proofs.SineLaws.{reduced-below}
 use Rattle.numbers.proofs.WideProduct.{mul-div-asked, mul-div-gave}
-use Rattle.sums.specs.Instant.{century, furthest, value}
-use Rattle.sums.specs.declared.instant.Polynomial.{Polynomial}
-use Rattle.sums.specs.declared.instant.Powers.{Powers}
+use Rattle.sum_rules.specs.Instant.{century, furthest, value}
+use Rattle.sum_rules.specs.declared.instant.Polynomial.{Polynomial}
+use Rattle.sum_rules.specs.declared.instant.Powers.{Powers}
 use Rattle.sums.proofs.InstantLaws.{p2-most, p3-most, p4-most}
 use Rattle.sums.proofs.instant.value_at.Statement.{statement}
 use Rattle.sums.proofs.instant.value_at.Tie as tie

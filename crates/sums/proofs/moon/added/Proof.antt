@@ -2,9 +2,9 @@
 use mathlib.Core.Path.{_∙_, ap}
 use lib.IntN.{pos}
 use borrow.Author.Needs.{needs}
-use Rattle.numbers.specs.Sine.{sine}
+use Rattle.number_rules.specs.Sine.{sine}
 use Rattle.numbers.proofs.Machine.{Mirror, _⊗_, any, arg, fits, gave, kept, lit}
-use Rattle.numbers.proofs.SineSize.{sine-most}
+use Rattle.number_rules.proofs.SineSize.{sine-most}
 use Rattle.sums.proofs.moon.added.Statement.{statement}
 use Rattle.sums.proofs.moon.added.Tie as tie
 

@@ -3,9 +3,9 @@ use mathlib.Core.Path.{ap}
 use lib.IntN.{negsuc, pos}
 use borrow.Author.Needs.{needs}
 use Rattle.numbers.proofs.Machine.{Mirror, _⊕_, _⊗_, fits, floor-gave, kept, lit, told}
-use Rattle.sums.specs.declared.instant.Powers.{Powers}
+use Rattle.sum_rules.specs.declared.instant.Powers.{Powers}
 use Rattle.sums.proofs.InstantLaws.{p2-most, u-most}
-use Rattle.sums.specs.Moon.{E, E2}
+use Rattle.sum_rules.specs.Moon.{E, E2}
 use Rattle.sums.proofs.moon.eccentricity_at.Statement.{statement}
 use Rattle.sums.proofs.moon.eccentricity_at.Tie as tie
 

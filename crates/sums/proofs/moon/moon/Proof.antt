@@ -3,10 +3,10 @@ use mathlib.Core.Path.{_∙_, _≡_, ap, subst}
 use lib.IntN.{ℤ}
 use borrow.Author.Needs.{needs}
 use Rattle.numbers.proofs.Machine.{any}
-use Rattle.sums.specs.Accuracy.{MoonNear}
-use Rattle.sums.specs.Instant.{powers}
-use Rattle.sums.specs.Moon.{latitude, longitude, metres}
-use Rattle.sums.specs.declared.instant.Powers.{Powers}
+use Rattle.sum_rules.specs.Accuracy.{MoonNear}
+use Rattle.sum_rules.specs.Instant.{powers}
+use Rattle.sum_rules.specs.Moon.{latitude, longitude, metres}
+use Rattle.sum_rules.specs.declared.instant.Powers.{Powers}
 use Rattle.sums.proofs.InstantLaws.{reached}
 use Rattle.sums.proofs.moon.moon.Statement.{statement}
 use Rattle.sums.proofs.moon.moon.Tie as tie

@@ -3,14 +3,14 @@ use mathlib.Core.Path.{_∙_, _≡_, ap, subst⁻¹}
 use Prim.Native.Nat.{_≤_}
 use lib.IntN.{natAbs, pos, ℤ}
 use borrow.Author.Needs.{needs}
-use Rattle.numbers.specs.Angle.{reduced}
+use Rattle.number_rules.specs.Angle.{reduced}
 use Rattle.numbers.proofs.Machine.{Mirror, _⊕_, asked, fits, floor-gave, gave, kept, lit, some-gave, told}
-use Rattle.sums.specs.Instant.{furthest}
-use Rattle.sums.specs.Moon.{arguments, by-cosine, by-sine, cosine-term, eccentricity, latitude, latitude-added, latitude-sum, longitude, longitude-added, longitude-sum, metres, sine-term}
+use Rattle.sum_rules.specs.Instant.{furthest}
+use Rattle.sum_rules.specs.Moon.{arguments, by-cosine, by-sine, cosine-term, eccentricity, latitude, latitude-added, latitude-sum, longitude, longitude-added, longitude-sum, metres, sine-term}
 use Rattle.sums.specs.MoonRange.{Slight, Summable, Turns}
-use Rattle.sums.specs.MoonTerms.{A1, A2, A3, L′, latitude-terms, longitude-distance-terms}
-use Rattle.sums.specs.Table.{column, total}
-use Rattle.sums.proofs.Accurate.{moon-near}
+use Rattle.sum_rules.specs.MoonTerms.{A1, A2, A3, L′, latitude-terms, longitude-distance-terms}
+use Rattle.sum_rules.specs.Table.{column, total}
+use Rattle.sum_rules.proofs.Accurate.{moon-near}
 use Rattle.sums.proofs.InstantLaws.{value-small}
 use Rattle.sums.proofs.MoonLaws.{arguments-turn, by-cosine-small, by-sine-small, eccentricity-slight, latitude-fits, longitude-distance-fits}
 use Rattle.sums.proofs.moon.moon_at.Statement.{statement}

@@ -8,10 +8,10 @@ use lib.ListN.{length, take}
 use mir.Syntax.{w64}
 use mir.Val.{toZ}
 use borrow.Author.Needs.{needs}
-use Rattle.numbers.specs.Sine.{cosine, sine}
-use Rattle.sums.specs.Moon.{cosine-term, sine-term}
+use Rattle.number_rules.specs.Sine.{cosine, sine}
+use Rattle.sum_rules.specs.Moon.{cosine-term, sine-term}
 use Rattle.sums.specs.MoonRange.{Slight, Summable, spread}
-use Rattle.sums.specs.Table.{total}
+use Rattle.sum_rules.specs.Table.{total}
 use Rattle.sums.proofs.MoonLaws.{cosine-term-most, sine-term-most}
 use Rattle.sums.proofs.SumLoop.{all-added, next-fits, next-is}
 use Rattle.sums.proofs.moon.term_sums.Statement.{statement}

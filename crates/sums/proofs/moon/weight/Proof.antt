@@ -5,8 +5,8 @@ use lib.IntN.{_*ℤ_, pos, ℤ}
 use borrow.Author.Needs.{needs}
 use Rattle.arithmetic.specs.Floor.{⌊_÷_⌋}
 use Rattle.numbers.proofs.Machine.{Mirror, _⊗_, arg, fits, floor-gave, kept, lit, told}
-use Rattle.sums.specs.Moon.{weight}
-use Rattle.sums.specs.declared.moon.Eccentricity.{Eccentricity}
+use Rattle.sum_rules.specs.Moon.{weight}
+use Rattle.sum_rules.specs.declared.moon.Eccentricity.{Eccentricity}
 use Rattle.sums.proofs.moon.weight.Statement.{statement}
 use Rattle.sums.proofs.moon.weight.Tie as tie
 

@@ -6,13 +6,13 @@ use lib.Dec.{leb→le}
 use lib.IntN.{natAbs, pos, ℤ}
 use borrow.Author.Needs.{needs}
 use Rattle.numbers.proofs.Machine.{Mirror, _⊗_, asked, fits, floor-gave, kept, lit, told}
-use Rattle.sums.specs.Instant.{u}
+use Rattle.sum_rules.specs.Instant.{u}
 use Rattle.sums.specs.MoonRange.{Turns}
-use Rattle.sums.specs.Nutation.{arguments, cosine-term, sine-term, Δε, Δψ}
+use Rattle.sum_rules.specs.Nutation.{arguments, cosine-term, sine-term, Δε, Δψ}
 use Rattle.sums.specs.NutationRange.{Summable}
-use Rattle.sums.specs.NutationTerms.{nutation-terms}
-use Rattle.sums.specs.Table.{total}
-use Rattle.sums.specs.declared.instant.Powers.{Powers}
+use Rattle.sum_rules.specs.NutationTerms.{nutation-terms}
+use Rattle.sum_rules.specs.Table.{total}
+use Rattle.sum_rules.specs.declared.instant.Powers.{Powers}
 use Rattle.sums.proofs.InstantLaws.{u-most}
 use Rattle.sums.proofs.NutationLaws.{arguments-turn, by-cosine-small, by-sine-small, nutation-fits}
 use Rattle.sums.proofs.nutation.nutation_at.Statement.{statement}

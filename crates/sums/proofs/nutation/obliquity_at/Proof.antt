@@ -4,8 +4,8 @@ use Prim.Native.Nat.{_*_, _/_}
 use lib.IntN.{negsuc, pos}
 use borrow.Author.Needs.{needs}
 use Rattle.numbers.proofs.Machine.{Mirror, _⊕_, _⊗_, arg, fits, floor-gave, kept, lit, told}
-use Rattle.sums.specs.Nutation.{mean-obliquity}
-use Rattle.sums.specs.declared.instant.Powers.{Powers}
+use Rattle.sum_rules.specs.Nutation.{mean-obliquity}
+use Rattle.sum_rules.specs.declared.instant.Powers.{Powers}
 use Rattle.sums.proofs.InstantLaws.{p2-most, p3-most, u-most}
 use Rattle.sums.proofs.nutation.obliquity_at.Statement.{statement}
 use Rattle.sums.proofs.nutation.obliquity_at.Tie as tie

@@ -5,7 +5,7 @@ use lib.Dec.{leb→le}
 use lib.IntN.{natAbs}
 use borrow.Author.Needs.{needs}
 use Rattle.numbers.proofs.Machine.{Mirror, _⊕_, _⊗_, fits, kept, told}
-use Rattle.sums.specs.Table.{column}
+use Rattle.sum_rules.specs.Table.{column}
 use Rattle.sums.proofs.NarrowMirror.{narrow, widened}
 use Rattle.sums.proofs.nutation.row_angle.Statement.{statement}
 use Rattle.sums.proofs.nutation.row_angle.Tie as tie

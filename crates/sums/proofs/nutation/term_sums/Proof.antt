@@ -10,11 +10,11 @@ use lib.ListN.{length, take}
 use mir.Syntax.{w64}
 use mir.Val.{ofZ, toZ}
 use borrow.Author.Needs.{needs}
-use Rattle.numbers.specs.Sine.{cosine, sine}
+use Rattle.number_rules.specs.Sine.{cosine, sine}
 use Rattle.numbers.proofs.Machine.{any, handed}
-use Rattle.sums.specs.Nutation.{cosine-term, sine-term}
+use Rattle.sum_rules.specs.Nutation.{cosine-term, sine-term}
 use Rattle.sums.specs.NutationRange.{Summable, spread}
-use Rattle.sums.specs.Table.{total}
+use Rattle.sum_rules.specs.Table.{total}
 use Rattle.sums.proofs.NutationLaws.{cosine-term-most, sine-term-most}
 use Rattle.sums.proofs.SumLoop.{all-added, next-fits, next-is}
 use Rattle.sums.proofs.nutation.term_sums.Statement.{statement}

@@ -4,11 +4,11 @@ use Prim.Native.Nat.{_≤_, ℕ}
 use lib.IntN.{_*ℤ_, _+ℤ_, pos}
 use borrow.Author.Needs.{needs}
 use Rattle.arithmetic.specs.Floor.{⌊_÷_⌋}
-use Rattle.numbers.specs.Angle.{full-turn}
-use Rattle.numbers.specs.Sine.{cosine}
+use Rattle.number_rules.specs.Angle.{full-turn}
+use Rattle.number_rules.specs.Sine.{cosine}
 use Rattle.numbers.proofs.Machine.{Mirror, _⊕_, _⊗_, any, arg, fits, floor-gave, from-nat, gave, kept, nat-fits}
-use Rattle.numbers.proofs.SineSize.{cosine-most}
-use Rattle.sums.specs.Sidereal.{apparent}
+use Rattle.number_rules.proofs.SineSize.{cosine-most}
+use Rattle.sum_rules.specs.Sidereal.{apparent}
 use Rattle.sums.proofs.InstantLaws.{mean-most}
 use Rattle.sums.proofs.sidereal.apparent_at.Statement.{statement}
 use Rattle.sums.proofs.sidereal.apparent_at.Tie as tie

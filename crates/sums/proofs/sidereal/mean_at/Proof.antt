@@ -3,12 +3,12 @@ use mathlib.Core.Path.{_∙_, ap, refl}
 use Prim.Native.Nat.{_*_}
 use lib.IntN.{negsuc, pos}
 use borrow.Author.Needs.{needs}
-use Rattle.numbers.specs.Angle.{reduced}
+use Rattle.number_rules.specs.Angle.{reduced}
 use Rattle.numbers.proofs.Machine.{Mirror, _⊕_, _⊗_, fits, floor-gave, kept, lit, told}
 use Rattle.numbers.proofs.WideProduct.{mul-div-asked, mul-div-gave}
-use Rattle.sums.specs.Instant.{day}
-use Rattle.sums.specs.Sidereal.{mean}
-use Rattle.sums.specs.declared.instant.Powers.{Powers}
+use Rattle.sum_rules.specs.Instant.{day}
+use Rattle.sum_rules.specs.Sidereal.{mean}
+use Rattle.sum_rules.specs.declared.instant.Powers.{Powers}
 use Rattle.sums.proofs.InstantLaws.{p2-most, p3-most}
 use Rattle.sums.proofs.sidereal.mean_at.Statement.{statement}
 use Rattle.sums.proofs.sidereal.mean_at.Tie as tie

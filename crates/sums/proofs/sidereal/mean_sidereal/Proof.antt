@@ -2,9 +2,9 @@
 use mathlib.Core.Path.{_∙_, _≡_, ap, refl}
 use borrow.Author.Needs.{needs}
 use Rattle.numbers.proofs.Machine.{told}
-use Rattle.sums.specs.Instant.{powers}
-use Rattle.sums.specs.Sidereal.{mean}
-use Rattle.sums.specs.declared.instant.Powers.{Powers}
+use Rattle.sum_rules.specs.Instant.{powers}
+use Rattle.sum_rules.specs.Sidereal.{mean}
+use Rattle.sum_rules.specs.declared.instant.Powers.{Powers}
 use Rattle.sums.proofs.InstantLaws.{reached}
 use Rattle.sums.proofs.sidereal.mean_sidereal.Statement.{statement}
 use Rattle.sums.proofs.sidereal.mean_sidereal.Tie as tie

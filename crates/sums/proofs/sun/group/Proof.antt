@@ -12,9 +12,9 @@ use mir.Val.{ofZ, toZ}
 use borrow.Author.Needs.{needs}
 use Rattle.exact.specs.Reference.{sum}
 use Rattle.numbers.proofs.Machine.{any, handed}
-use Rattle.sums.specs.Sun.{group, row-value}
+use Rattle.sum_rules.specs.Sun.{group, row-value}
 use Rattle.sums.specs.SunRange.{spread}
-use Rattle.sums.specs.Table.{count, total}
+use Rattle.sum_rules.specs.Table.{count, total}
 use Rattle.sums.proofs.SumLoop.{all-added, next-fits, next-is}
 use Rattle.sums.proofs.SunLaws.{row-value-most}
 use Rattle.sums.proofs.sun.group.Statement.{statement}

@@ -6,9 +6,9 @@ use lib.Dec.{leb→le}
 use lib.IntN.{natAbs, ℤ}
 use borrow.Author.Needs.{needs}
 use Rattle.numbers.proofs.Machine.{Mirror, asked, gave, passed, told}
-use Rattle.sums.specs.Instant.{furthest}
+use Rattle.sum_rules.specs.Instant.{furthest}
 use Rattle.sums.specs.SunRange.{Summable}
-use Rattle.sums.specs.SunTerms.{B0, B1}
+use Rattle.sum_rules.specs.SunTerms.{B0, B1}
 use Rattle.sums.proofs.SunLaws.{B-sound, down-is, none-above, series-is}
 use Rattle.sums.proofs.sun.heliocentric_latitude.Statement.{statement}
 use Rattle.sums.proofs.sun.heliocentric_latitude.Tie as tie

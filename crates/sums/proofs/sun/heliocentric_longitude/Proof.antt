@@ -6,9 +6,9 @@ use lib.Dec.{leb→le}
 use lib.IntN.{natAbs, ℤ}
 use borrow.Author.Needs.{needs}
 use Rattle.numbers.proofs.Machine.{Mirror, asked, gave, passed, told}
-use Rattle.sums.specs.Instant.{furthest}
+use Rattle.sum_rules.specs.Instant.{furthest}
 use Rattle.sums.specs.SunRange.{Summable}
-use Rattle.sums.specs.SunTerms.{L0, L1, L2, L3, L4, L5}
+use Rattle.sum_rules.specs.SunTerms.{L0, L1, L2, L3, L4, L5}
 use Rattle.sums.proofs.SunLaws.{L-sound, down-is, none-above, series-is}
 use Rattle.sums.proofs.sun.heliocentric_longitude.Statement.{statement}
 use Rattle.sums.proofs.sun.heliocentric_longitude.Tie as tie

@@ -6,9 +6,9 @@ use lib.Dec.{leb→le}
 use lib.IntN.{natAbs, ℤ}
 use borrow.Author.Needs.{needs}
 use Rattle.numbers.proofs.Machine.{Mirror, asked, gave, passed, told}
-use Rattle.sums.specs.Instant.{furthest}
+use Rattle.sum_rules.specs.Instant.{furthest}
 use Rattle.sums.specs.SunRange.{Summable}
-use Rattle.sums.specs.SunTerms.{R0, R1, R2, R3, R4}
+use Rattle.sum_rules.specs.SunTerms.{R0, R1, R2, R3, R4}
 use Rattle.sums.proofs.SunLaws.{R-sound, down-is, none-above, series-is}
 use Rattle.sums.proofs.sun.heliocentric_radius.Statement.{statement}
 use Rattle.sums.proofs.sun.heliocentric_radius.Tie as tie

@@ -4,8 +4,8 @@ use native.Mathlib.Nat.{le-trans}
 use lib.IntN.{ℤ}
 use Rattle.numbers.proofs.Machine.{Mirror, _⊕_, arg, asked, fits, gave, kept}
 use Rattle.numbers.proofs.WideProduct.{mul-div-asked, mul-div-gave}
-use Rattle.sums.specs.Instant.{millennium}
-use Rattle.sums.specs.Sun.{group}
+use Rattle.sum_rules.specs.Instant.{millennium}
+use Rattle.sum_rules.specs.Sun.{group}
 use Rattle.sums.proofs.SunLaws.{group-most}
 use Rattle.sums.proofs.sun.into_first.Statement.{statement}
 use Rattle.sums.proofs.sun.into_first.Tie as tie

@@ -2,7 +2,7 @@
 use lib.IntN.{pos}
 use Rattle.numbers.proofs.Machine.{Mirror, arg, lit}
 use Rattle.numbers.proofs.WideProduct.{mul-div-asked, mul-div-gave}
-use Rattle.sums.specs.Sun.{latitude-degrees}
+use Rattle.sum_rules.specs.Sun.{latitude-degrees}
 use Rattle.sums.proofs.sun.latitude_degrees.Statement.{statement}
 use Rattle.sums.proofs.sun.latitude_degrees.Tie as tie
 

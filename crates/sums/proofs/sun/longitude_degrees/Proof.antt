@@ -9,7 +9,7 @@ use Rattle.arithmetic.specs.Floor.{_modulo_, ⌊_÷_⌋}
 use Rattle.arithmetic.proofs.FloorLaws.{modulo-below}
 use Rattle.numbers.proofs.Machine.{Mirror, any, from-nat, lit, nat-fits}
 use Rattle.numbers.proofs.WideProduct.{mul-div-asked, mul-div-gave}
-use Rattle.sums.specs.Sun.{longitude-degrees}
+use Rattle.sum_rules.specs.Sun.{longitude-degrees}
 use Rattle.sums.proofs.sun.longitude_degrees.Statement.{statement}
 use Rattle.sums.proofs.sun.longitude_degrees.Tie as tie
 

@@ -4,8 +4,8 @@ use native.Mathlib.Nat.{le-trans}
 use lib.IntN.{ℤ}
 use borrow.Author.Needs.{needs}
 use Rattle.numbers.proofs.Machine.{Mirror, _⊕_, _⊗_, arg, fits, floor-gave, gave, kept, told}
-use Rattle.sums.specs.Sun.{group}
-use Rattle.sums.specs.declared.instant.Powers.{Powers}
+use Rattle.sum_rules.specs.Sun.{group}
+use Rattle.sum_rules.specs.declared.instant.Powers.{Powers}
 use Rattle.sums.proofs.InstantLaws.{u-most}
 use Rattle.sums.proofs.SunLaws.{group-most}
 use Rattle.sums.proofs.sun.onto.Statement.{statement}

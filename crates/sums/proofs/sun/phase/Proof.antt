@@ -2,7 +2,7 @@
 use borrow.Author.Needs.{needs}
 use Rattle.numbers.proofs.Machine.{Mirror, arg, from-nat}
 use Rattle.numbers.proofs.WideProduct.{mul-div-asked, mul-div-gave}
-use Rattle.sums.specs.Instant.{millennium}
+use Rattle.sum_rules.specs.Instant.{millennium}
 use Rattle.sums.proofs.sun.phase.Statement.{statement}
 use Rattle.sums.proofs.sun.phase.Tie as tie
 

@@ -8,7 +8,7 @@ use borrow.Author.Needs.{needs}
 use Rattle.arithmetic.specs.Floor.{_modulo_}
 use Rattle.arithmetic.proofs.FloorLaws.{modulo-below}
 use Rattle.numbers.proofs.Machine.{Mirror, _⊕_, any, fits, from-nat, gave, handed, kept}
-use Rattle.sums.specs.Sun.{phase, row-angle}
+use Rattle.sum_rules.specs.Sun.{phase, row-angle}
 use Rattle.sums.proofs.SunLaws.{phase-small}
 use Rattle.sums.proofs.sun.row_angle.Statement.{statement}
 use Rattle.sums.proofs.sun.row_angle.Tie as tie

@@ -4,11 +4,11 @@ use mathlib.Core.Path.{_∙_, _≡_, ap, subst⁻¹, sym}
 use Prim.Native.Nat.{_≤_, ℕ}
 use lib.IntN.{pos, ℤ}
 use borrow.Author.Needs.{needs}
-use Rattle.numbers.specs.Angle.{full-turn}
-use Rattle.numbers.specs.Sine.{cosine}
+use Rattle.number_rules.specs.Angle.{full-turn}
+use Rattle.number_rules.specs.Sine.{cosine}
 use Rattle.numbers.proofs.Machine.{Mirror, _⊗_, any, fits, floor-gave, from-nat, gave, kept, lit, nat-fits}
-use Rattle.numbers.proofs.SineSize.{cosine-most}
-use Rattle.sums.specs.Sun.{row-A, row-B, row-C, row-angle, row-value}
+use Rattle.number_rules.proofs.SineSize.{cosine-most}
+use Rattle.sum_rules.specs.Sun.{row-A, row-B, row-C, row-angle, row-value}
 use Rattle.sums.specs.SunRange.{SmallRay}
 use Rattle.sums.proofs.SunLaws.{above, constant-value, row-angle-small}
 use Rattle.sums.proofs.sun.row_value.Statement.{statement}

@@ -1,7 +1,7 @@
 -- `sums::sun::sun_at` meets its contract.
 use borrow.Author.Needs.{needs}
 use Rattle.numbers.proofs.Machine.{passed}
-use Rattle.sums.proofs.Accurate.{sun-near}
+use Rattle.sum_rules.proofs.Accurate.{sun-near}
 use Rattle.sums.proofs.sun.sun_at.Statement.{statement}
 use Rattle.sums.proofs.sun.sun_at.Tie as tie
 

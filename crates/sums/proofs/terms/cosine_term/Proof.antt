@@ -5,9 +5,9 @@ use lib.IntN.{_*ℤ_, ℤ}
 use borrow.Author.Needs.{needs}
 use Rattle.arithmetic.proofs.Integers.{solveℤ}
 use Rattle.arithmetic.proofs.Solver.{_:*_, k0, x0}
-use Rattle.numbers.specs.Sine.{cosine}
+use Rattle.number_rules.specs.Sine.{cosine}
 use Rattle.numbers.proofs.Machine.{Mirror, _⊗_, any, arg, fits, gave, is-zero, kept}
-use Rattle.numbers.proofs.SineSize.{cosine-most}
+use Rattle.number_rules.proofs.SineSize.{cosine-most}
 use Rattle.sums.proofs.terms.cosine_term.Statement.{statement}
 use Rattle.sums.proofs.terms.cosine_term.Tie as tie
 

@@ -3,7 +3,7 @@ use mathlib.Core.Path.{_∙_, ap}
 use lib.IntN.{ℤ}
 use borrow.Author.Needs.{needs}
 use Rattle.arithmetic.specs.Floor.{_modulo_}
-use Rattle.numbers.specs.Angle.{full-turn, reduced}
+use Rattle.number_rules.specs.Angle.{full-turn, reduced}
 use Rattle.numbers.proofs.Machine.{any}
 use Rattle.numbers.proofs.angle.Angle.new.Statement.{statement}
 use Rattle.numbers.proofs.angle.Angle.new.Tie as tie

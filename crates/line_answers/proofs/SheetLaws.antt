@@ -1,0 +1,65 @@
+-- The rows of lines that were read and of those that were not, and the text of a row.
+use mathlib.Core.Bool.{false, true}
+use mathlib.Core.List.{List, [], _∷_, _++_, append-assoc}
+use mathlib.Core.Option.{Option, none, some}
+use mathlib.Core.Path.{_∙_, _≡_, ap, refl, subst, subst⁻¹}
+use Prim.Native.Nat.{_-_, suc, zero, ℕ}
+use lib.Dec.{T}
+use lib.IntN.{pos, ℤ}
+use lib.ListN.{length, replicate}
+use Rattle.sum_rules.specs.Table.{column}
+use Rattle.text.specs.Decimal.{Appended, decimal, written}
+use Rattle.text.specs.Line.{answer, space}
+use Rattle.text.specs.RoundTrip.{printed}
+use Rattle.text.specs.declared.decimal.Text.{Text}
+use Rattle.line_answers.specs.declared.sheet.Arguments.{Arguments}
+use Rattle.line_answers.specs.Sheet.{arguments-line, newline, no-arguments, row-from, start-from, start-row}
+
+-- zeros at the end of a row change no column
+zeros-column : (n k : ℕ) → column (replicate n (pos 0)) k ≡ pos 0
+zeros-column zero k = refl
+zeros-column (suc n) zero = refl
+zeros-column (suc n) (suc k) = zeros-column n k
+
+pub padded-column : (row : List ℤ) (n k : ℕ) → column (row ++ replicate n (pos 0)) k ≡ column row k
+padded-column [] n k = zeros-column n k
+padded-column (entry ∷ row) n zero = refl
+padded-column (entry ∷ row) n (suc k) = padded-column row n k
+
+pub padded-start : (row : List ℤ) (n : ℕ) → start-from (row ++ replicate n (pos 0)) ≡ start-from row
+unfolding start-from
+padded-start row n i =
+    record {
+      year = padded-column row n 0 i;
+      month = padded-column row n 1 i;
+      day = padded-column row n 2 i;
+      hour = padded-column row n 3 i;
+      minute = padded-column row n 4 i;
+      second = padded-column row n 5 i;
+      fraction = padded-column row n 6 i;
+      ut1 = padded-column row n 7 i;
+      delta = padded-column row n 8 i;
+    }
+
+pub not-read : (numbers : Option (List ℤ)) → answer numbers .read ≡ false → record { refusal = 16; value = no-arguments } ≡ row-from numbers
+unfolding answer row-from
+not-read none e = refl
+not-read (some list) e = absurd (subst T e tt)
+
+pub was-read : (numbers : Option (List ℤ)) → answer numbers .read ≡ true → start-row (start-from (answer numbers .values)) ≡ row-from numbers
+unfolding answer row-from
+was-read none e = absurd (subst⁻¹ T e tt)
+was-read (some list) e = ap start-row (padded-start list (12 - length list))
+
+-- ---- texts
+
+pub from-empty : {text next : Text} {added : List ℕ} → text ≡ record { bytes = replicate 80 0; length = 0 } → Appended text added next → written next ≡ added
+from-empty {added} e a = a .in-use ∙ ap (λ (t : Text). written t ++ added) e
+
+-- three numbers, each with the byte after it
+abbrev pub fields : ℤ → ℤ → ℤ → List ℕ
+fields first second third = ((decimal first ++ space ∷ []) ++ (decimal second ++ space ∷ [])) ++ (decimal third ++ newline ∷ [])
+
+pub fields-line : (found : Arguments) → fields (found .tt) (found .longitude) (found .sidereal) ≡ arguments-line found
+unfolding arguments-line printed
+fields-line found = simp append-assoc

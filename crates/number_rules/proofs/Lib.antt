@@ -1,0 +1,9 @@
+pub mod SineTableLaws
+pub mod ArctangentTableLaws
+pub mod SineSteps
+pub mod SineLaws
+pub mod QuarterSine
+pub mod SineNear
+pub mod SineSize
+pub mod CalendarLaws
+pub mod CasesHold

@@ -1,0 +1,19 @@
+-- Sine lies within 6 units of the reference (01, "Sine"), and so does cosine: at every angle in 10⁻⁸ degree, reduced or not.
+use lib.IntN.{ℤ}
+use Rattle.exact.specs.Fraction.{Within, _*q_, _-q_, _over_, nat, whole, ℚ}
+use Rattle.exact.specs.Reference.{cos°, sin°}
+use Rattle.number_rules.specs.Sine.{cosine, sine}
+
+-- an angle in degrees
+abbrev pub degrees : ℤ → ℚ
+degrees x = whole x over 100_000_000
+
+-- a sine-scaled number against a reference, which is times 10⁹ then
+abbrev pub SixFrom : ℤ → ℚ → Type 0
+SixFrom s reference = Within (whole s -q nat 1_000_000_000 *q reference) (nat 6)
+
+abbrev pub SineNear : Type 0
+SineNear = (x : ℤ) → SixFrom (sine x) (sin° (degrees x))
+
+abbrev pub CosineNear : Type 0
+CosineNear = (x : ℤ) → SixFrom (cosine x) (cos° (degrees x))

@@ -1,0 +1,1 @@
+// The rules of angles, sines and dates are in specs/; nothing here runs.

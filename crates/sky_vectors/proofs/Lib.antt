@@ -1,0 +1,4 @@
+pub mod SkySizes
+pub mod SkyMirror
+pub mod Parallax
+pub mod PlaceLaws

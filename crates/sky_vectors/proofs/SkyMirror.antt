@@ -1,0 +1,91 @@
+-- A field of a struct as a `Mirror`, and what the sky's calls ask and give in mirrors.
+use mathlib.Core.Bool.{Bool, _&&_}
+use mathlib.Core.Path.{_∙_, _≡_, ap, refl}
+use Prim.Native.Nat.{_*_, _<_, _^_, _≤_, ℕ}
+use native.Mathlib.Nat.{le-of-lt, le-trans}
+use native.Mathlib.Omega.{arith}
+use lib.Dec.{T, leb, leb→le, ltb}
+use lib.IntN.{_*ℤ_, _+ℤ_, _-ℤ_, natAbs, negsuc, pos, ℤ}
+use lib.Signed.{mag, nonNeg}
+use mir.Facts.{and-yes}
+use mir.Syntax.{w64}
+use mir.Val.{Fits, SFits, ofZ, toZ}
+use mir.ValLaws.{toZ-pos}
+use Rattle.arithmetic.proofs.Sizes.{mul-bound}
+use Rattle.number_rules.specs.Angle.{full-turn}
+use Rattle.numbers.specs.Arctangent.{arctangent}
+use Rattle.numbers.specs.declared.sine.SineCosine.{SineCosine}
+use Rattle.numbers.proofs.ArctangentLaws.{arctangent-below}
+use Rattle.numbers.proofs.Machine.{Mirror, asked, nat-fits, passed, told}
+use Rattle.sky_vectors.specs.Product.{_·_}
+use Rattle.sky_vectors.specs.SkyRange.{OneAngle, Products, Within}
+use Rattle.sky_vectors.specs.declared.vector.Vector.{Vector}
+
+abbrev pub field : (x : ℤ) {m : ℕ} → natAbs x ≤ m → T (ltb m (2 ^ 63)) → Mirror
+field x {m} h t = told {r = x} {v = x} {m = m} refl h t
+
+abbrev pub sine-in : {t : SineCosine} → OneAngle t → Mirror
+sine-in {t} u = field (t .sine) (u .sine-size) tt
+
+abbrev pub cosine-in : {t : SineCosine} → OneAngle t → Mirror
+cosine-in {t} u = field (t .cosine) (u .cosine-size) tt
+
+module _ {m : ℕ} {v : Vector} (w : Within m v) (t : T (ltb m (2 ^ 63))) where
+  abbrev pub x-in : Mirror
+  x-in = field (v .x) (w .x-size) t
+
+  abbrev pub y-in : Mirror
+  y-in = field (v .y) (w .y-size) t
+
+  abbrev pub z-in : Mirror
+  z-in = field (v .z) (w .z-size) t
+
+-- ---- two products
+abbrev in-range : Mirror → Mirror → Mirror → Mirror → Bool
+in-range p u q v = (leb (p .most) 3_000_000_000 && leb (u .most) 2_000_000_000) && (leb (q .most) 3_000_000_000 && leb (v .most) 2_000_000_000)
+
+module _ (p u q v : Mirror) where
+  pub products : T (in-range p u q v) → Products (p .machine) (u .machine) (q .machine) (v .machine)
+  products t =
+      let both = and-yes (leb (p .most) 3_000_000_000 && leb (u .most) 2_000_000_000) _ t in
+      let l = and-yes (leb (p .most) 3_000_000_000) (leb (u .most) 2_000_000_000) (both .0) in
+      let r = and-yes (leb (q .most) 3_000_000_000) (leb (v .most) 2_000_000_000) (both .1) in
+      record { first = asked p (l .0); with-first = asked u (l .1); second = asked q (r .0); with-second = asked v (r .1) }
+
+  pub gave-added : {r : ℤ} → mag r < 2 ^ 63 → r ≡ p .machine · u .machine +ℤ q .machine · v .machine
+      → toZ w64 (ofZ w64 r) ≡ p .number · u .number +ℤ q .number · v .number
+  gave-added f e = passed f e ∙ (λ i. p .same i · u .same i +ℤ q .same i · v .same i)
+
+  pub gave-subtracted : {r : ℤ} → mag r < 2 ^ 63 → r ≡ p .machine · u .machine -ℤ q .machine · v .machine
+      → toZ w64 (ofZ w64 r) ≡ p .number · u .number -ℤ q .number · v .number
+  gave-subtracted f e = passed f e ∙ (λ i. p .same i · u .same i -ℤ q .same i · v .same i)
+
+-- ---- an arctangent, as a signed number
+pub arctangent-most : (y x : ℤ) → arctangent y x ≤ full-turn
+arctangent-most y x = le-of-lt (arctangent-below y x)
+
+pub angle-fits : {r : ℕ} (y x : Mirror) → r ≡ arctangent (y .machine) (x .machine) → SFits w64 (pos r)
+angle-fits {r} y x e = nat-fits {n = r} {m = full-turn} (rw e (arctangent-most (y .machine) (x .machine))) tt
+
+abbrev pub angle-gave : {r : ℕ} (y x : Mirror) → r ≡ arctangent (y .machine) (x .machine) → Mirror
+angle-gave {r} y x e =
+    record {
+      machine = toZ w64 r;
+      number = pos (arctangent (y .number) (x .number));
+      most = full-turn;
+      same = toZ-pos w64 r (angle-fits y x e .sfits) ∙ ap pos (e ∙ (λ i. arctangent (y .same i) (x .same i)));
+      bound = arctangent-most (y .number) (x .number);
+    }
+
+-- ---- a square, as an unsigned number
+pub square-is : (z : ℤ) → z *ℤ z ≡ pos (natAbs z * natAbs z)
+square-is (pos n) = refl
+square-is (negsuc n) = refl
+
+pub square-most : (x : Mirror) → T (leb (x .most) 3_000_000_000) → natAbs (x .number *ℤ x .number) ≤ 9_000_000_000_000_000_000
+square-most x t =
+    let l = le-trans (x .bound) (leb→le (x .most) 3_000_000_000 t) in
+    mul-bound (x .number) (x .number) l l
+
+pub square-cast : (x : Mirror) → T (leb (x .most) 3_000_000_000) → {m : ℤ} → m ≡ x .number *ℤ x .number → T (nonNeg m) × Fits w64 (natAbs m)
+square-cast x t e = rw (e ∙ square-is (x .number)) (tt, record { fits = omega (arith, rw square-is at (square-most x t)) })

@@ -1,0 +1,28 @@
+-- `sky::horizon::azimuth` meets its contract.
+use mathlib.Core.Path.{refl}
+use borrow.Author.Needs.{needs}
+use Rattle.numbers.proofs.Machine.{Mirror, some-gave}
+use Rattle.sky_vectors.specs.Horizon.{azimuth}
+use Rattle.sky_vectors.proofs.SkyMirror.{angle-fits, angle-gave}
+use Rattle.sky_vectors.proofs.horizon.azimuth.Statement.{statement}
+use Rattle.sky_vectors.proofs.horizon.azimuth.Tie as tie
+
+module _ (k : tie.After-struct-told2) where
+  abbrev east : Mirror
+  east = some-gave {r = k .before .before .args .seen .east} (k .struct-told2 .given .1 .1 .0 .1) refl
+
+  abbrev north : Mirror
+  north = some-gave {r = k .before .before .args .seen .north} (k .before .struct-told .given .1 .0 .1) refl
+
+arctangent-requires : tie.Need-arctangent-requires
+arctangent-requires c κs = search needs
+
+cast-result : tie.Need-cast-result
+cast-result c = angle-fits (east (c .before)) (north (c .before)) (c .arctangent .ensures)
+
+returns : tie.Need-returns
+unfolding azimuth
+returns c = angle-gave (east (c .before)) (north (c .before)) (c .arctangent .ensures) .same
+
+pub azimuth-spec : {M : Type 1} → statement M
+azimuth-spec = tie.close (tie.spec arctangent-requires cast-result returns)

@@ -1,0 +1,130 @@
+-- `sky::observer::observer_at` meets its contract. Each local is mirrored once, at the place where it is known.
+use mathlib.Core.Path.{_∙_, _≡_, ap}
+use borrow.Author.Needs.{needs}
+use Rattle.number_rules.specs.Sine.{cosine, sine}
+use Rattle.numbers.proofs.Machine.{Mirror, _⊕_, _⊗_, arg, fits, floor-gave, kept, lit, told}
+use Rattle.number_rules.proofs.SineSize.{cosine-most, sine-most}
+use Rattle.sky_vectors.specs.Observer.{flattened, observer, polar, radius}
+use Rattle.sky_vectors.proofs.SkyMirror.{angle-fits, angle-gave, cosine-in, sine-in}
+use Rattle.sky_vectors.proofs.observer.observer_at.Statement.{statement}
+use Rattle.sky_vectors.proofs.observer.observer_at.Tie as tie
+
+module _ (k : tie.After-struct-told2) where
+  abbrev a : tie.Start
+  a = k .before .before
+
+  abbrev s : Mirror
+  s = sine-in (a .pre .1)
+
+  abbrev c : Mirror
+  c = cosine-in (a .pre .1)
+
+  abbrev height : Mirror
+  height = arg (a .fits .height) (a .pre .2)
+
+  abbrev shrunk : Mirror
+  shrunk = lit polar ⊗ s
+
+abbrev y : tie.After-floor-div → Mirror
+y k = floor-gave (kept (shrunk (k .before)) tt) 100_000_000 (k .floor-div .ok) (k .floor-div .ensures)
+
+abbrev angle : tie.After-arctangent → Mirror
+angle k = angle-gave (y (k .before)) (c (k .before .before)) (k .arctangent .ensures)
+
+module _ (k : tie.After-sine-cosine-in) where
+  abbrev k₀ : tie.After-struct-told2
+  k₀ = k .before .before .before
+
+  sine-is : k .sine-cosine-in .result .sine ≡ sine (flattened (a k₀ .args .latitude))
+  unfolding flattened
+  sine-is = k .sine-cosine-in .ensures .0 ∙ ap sine (angle (k .before) .same)
+
+  cosine-is : k .sine-cosine-in .result .cosine ≡ cosine (flattened (a k₀ .args .latitude))
+  unfolding flattened
+  cosine-is = k .sine-cosine-in .ensures .1 ∙ ap cosine (angle (k .before) .same)
+
+  abbrev ws : Mirror
+  ws = told sine-is (sine-most (flattened (a k₀ .args .latitude))) tt
+
+  abbrev wc : Mirror
+  wc = told cosine-is (cosine-most (flattened (a k₀ .args .latitude))) tt
+
+  abbrev up : Mirror
+  up = height k₀ ⊗ c k₀
+
+  abbrev across : Mirror
+  across = height k₀ ⊗ s k₀
+
+  abbrev axial : Mirror
+  axial = lit polar ⊗ ws
+
+abbrev f : tie.After-floor-div2 → Mirror
+f k = let w = k .before .before .before in wc w ⊕ floor-gave (kept (up w) tt) radius (k .floor-div2 .ok) (k .floor-div2 .ensures)
+
+abbrev g : tie.After-floor-div4 → Mirror
+g k =
+    let w = k .before .before .before .before .before in
+    floor-gave (kept (axial w) tt) 100_000_000 (k .before .floor-div3 .ok) (k .before .floor-div3 .ensures)
+    ⊕ floor-gave (kept (across w) tt) radius (k .floor-div4 .ok) (k .floor-div4 .ensures)
+
+mul-floor-div : tie.Need-mul-floor-div
+mul-floor-div k = fits (shrunk k) tt
+
+floor-div-requires : tie.Need-floor-div-requires
+floor-div-requires k κs = search needs
+
+arctangent-requires : tie.Need-arctangent-requires
+arctangent-requires k κs = search needs
+
+cast-sine-cosine-in : tie.Need-cast-sine-cosine-in
+cast-sine-cosine-in k = angle-fits (y (k .before)) (c (k .before .before)) (k .arctangent .ensures)
+
+sine-cosine-in-requires : tie.Need-sine-cosine-in-requires
+sine-cosine-in-requires k κs = search needs
+
+mul-floor-div-2 : tie.Need-mul-floor-div-2
+mul-floor-div-2 k = fits (up (k .before .before)) tt
+
+floor-div-requires-2 : tie.Need-floor-div-requires-2
+floor-div-requires-2 k κs = search needs
+
+add-f : tie.Need-add-f
+add-f k = fits (f k) tt
+
+mul-floor-div-3 : tie.Need-mul-floor-div-3
+mul-floor-div-3 k = fits (axial (k .before .before .before)) tt
+
+floor-div-requires-3 : tie.Need-floor-div-requires-3
+floor-div-requires-3 k κs = search needs
+
+mul-floor-div-4 : tie.Need-mul-floor-div-4
+mul-floor-div-4 k = fits (across (k .before .before .before .before)) tt
+
+floor-div-requires-4 : tie.Need-floor-div-requires-4
+floor-div-requires-4 k κs = search needs
+
+add-g : tie.Need-add-g
+add-g k = fits (g k) tt
+
+returns : tie.Need-returns
+unfolding observer
+returns k = λ i. record { f = kept (f (k .before .before)) tt .same i; g = kept (g k) tt .same i }
+
+pub observer-at-spec : {M : Type 1} → statement M
+observer-at-spec =
+    tie.close
+    (tie.spec
+    mul-floor-div
+    floor-div-requires
+    arctangent-requires
+    cast-sine-cosine-in
+    sine-cosine-in-requires
+    mul-floor-div-2
+    floor-div-requires-2
+    add-f
+    mul-floor-div-3
+    floor-div-requires-3
+    mul-floor-div-4
+    floor-div-requires-4
+    add-g
+    returns)

@@ -1,0 +1,17 @@
+-- The body's vector and its rotations (01, "From the centre to the runner").
+use lib.IntN.{_+ℤ_, _-ℤ_}
+use Rattle.numbers.specs.declared.sine.SineCosine.{SineCosine}
+use Rattle.sky_vectors.specs.Product.{_·_}
+use Rattle.sky_vectors.specs.declared.vector.Vector.{Vector}
+
+-- unit vector, body's longitude l, latitude t: X = cos t cos l, Y = cos t sin l, Z = sin t
+unfoldable pub unit-vector : SineCosine → SineCosine → Vector
+unit-vector l t = record { x = t .cosine · l .cosine; y = t .cosine · l .sine; z = t .sine }
+
+-- x = X, y = Y cosε - Z sinε, z = Y sinε + Z cosε
+unfoldable pub equatorial : SineCosine → Vector → Vector
+equatorial ε v = record { x = v .x; y = v .y · ε .cosine -ℤ v .z · ε .sine; z = v .y · ε .sine +ℤ v .z · ε .cosine }
+
+-- a = x cosθ + y sinθ, b = y cosθ - x sinθ
+unfoldable pub meridian : SineCosine → Vector → Vector
+meridian θ v = record { x = v .x · θ .cosine +ℤ v .y · θ .sine; y = v .y · θ .cosine -ℤ v .x · θ .sine; z = v .z }

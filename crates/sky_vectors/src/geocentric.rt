@@ -1,0 +1,72 @@
+// Where the Sun and the Moon stand, seen from the Earth's centre.
+use super::observer::RADIUS;
+use numbers::angle::Angle;
+use numbers::whole::floor_div;
+use sum_rules::instant::Powers;
+use sums::moon::moon_at;
+use sums::sun::latitude_degrees;
+use sums::sun::longitude_degrees;
+use sums::sun::sun_at;
+ghost use mathlib.Core.Path.{_≡_};
+ghost use Rattle.number_rules.specs.SineTable.{sines};
+ghost use Rattle.sum_rules.specs.Instant.{Reached};
+ghost use Rattle.sum_rules.specs.Nutation.{Δψ};
+ghost use Rattle.sky_vectors.specs.Geocentric.{moon-geocentric, sun-geocentric, geocentric};
+
+pub enum Body {
+    Sun,
+    Moon,
+}
+
+// The apparent longitude, the latitude and the parallax.
+pub struct Geocentric {
+    pub longitude: i64,
+    pub latitude: i64,
+    pub parallax: i64,
+}
+
+// The powers are those of TT.
+fn moon_geocentric(table: &[u32; 361], t: Powers, nutation: i64) -> Geocentric
+    requires { ⌜ (now table ≡ sines) × (Reached t × (nutation ≡ Δψ (t .n))) ⌝ }
+    ensures { λ r. ⌜ r ≡ moon-geocentric (t .n) ⌝ }
+{
+    let moon = moon_at(table, t);
+    let longitude = moon.longitude as i64 + nutation;
+    let latitude = moon.latitude;
+    let metres = moon.metres as u64;
+    let parallax = floor_div(RADIUS as i64 * 1_000_000_000, metres);
+    Geocentric {
+        longitude,
+        latitude,
+        parallax,
+    }
+}
+
+// Opposite to the Earth as the Sun sees it, and aberrated.
+fn sun_geocentric(table: &[u32; 361], t: Powers, nutation: i64) -> Geocentric
+    requires { ⌜ (now table ≡ sines) × (Reached t × (nutation ≡ Δψ (t .n))) ⌝ }
+    ensures { λ r. ⌜ r ≡ sun-geocentric (t .n) ⌝ }
+{
+    let earth = sun_at(table, t);
+    let degrees = longitude_degrees(earth.longitude);
+    let latitude = -latitude_degrees(earth.latitude);
+    let radius = earth.radius as u64;
+    let aberration = floor_div(-5_691_610_000_000_000, radius);
+    let parallax = floor_div(426_350_000_000_000, radius);
+    let longitude = degrees + Angle::HALF as i64 + nutation + aberration;
+    Geocentric {
+        longitude,
+        latitude,
+        parallax,
+    }
+}
+
+pub fn geocentric_at(table: &[u32; 361], body: Body, t: Powers, nutation: i64) -> Geocentric
+    requires { ⌜ (now table ≡ sines) × (Reached t × (nutation ≡ Δψ (t .n))) ⌝ }
+    ensures { λ r. ⌜ r ≡ geocentric body (t .n) ⌝ }
+{
+    match body {
+        Body::Sun => sun_geocentric(table, t, nutation),
+        Body::Moon => moon_geocentric(table, t, nutation),
+    }
+}

@@ -1,0 +1,62 @@
+// A body's direction as a vector, and its rotations.
+use super::product::products_added;
+use super::product::products_subtracted;
+use numbers::sine::SineCosine;
+use numbers::whole::floor_div;
+ghost use mathlib.Core.Path.{_≡_};
+ghost use Rattle.sky_vectors.specs.Vector.{unit-vector, equatorial, meridian};
+ghost use Rattle.sky_vectors.specs.SkyRange.{OneAngle, Within};
+
+pub struct Vector {
+    pub x: i64,
+    pub y: i64,
+    pub z: i64,
+}
+
+// The unit vector at longitude l and latitude t.
+pub fn unit_vector(l: SineCosine, t: SineCosine) -> Vector
+    requires { ⌜ OneAngle l × OneAngle t ⌝ }
+    ensures { λ r. ⌜ r ≡ unit-vector l t ⌝ }
+{
+    let z = t.sine;
+    let flat = t.cosine;
+    let sine = l.sine;
+    let cosine = l.cosine;
+    let x = floor_div(flat * cosine, 1_000_000_000);
+    let y = floor_div(flat * sine, 1_000_000_000);
+    Vector { x, y, z }
+}
+
+// From the ecliptic to the equator, by the obliquity.
+pub fn equatorial(obliquity: SineCosine, v: Vector) -> Vector
+    requires { ⌜ OneAngle obliquity × Within 2_000_000_000 v ⌝ }
+    ensures { λ r. ⌜ r ≡ equatorial obliquity v ⌝ }
+{
+    let sine = obliquity.sine;
+    let cosine = obliquity.cosine;
+    let x = v.x;
+    let y = v.y;
+    let z = v.z;
+    Vector {
+        x,
+        y: products_subtracted(y, cosine, z, sine),
+        z: products_added(y, sine, z, cosine),
+    }
+}
+
+// From the equinox to the runner's meridian, by the sidereal angle there.
+pub fn meridian(sidereal: SineCosine, v: Vector) -> Vector
+    requires { ⌜ OneAngle sidereal × Within 2_000_000_000 v ⌝ }
+    ensures { λ r. ⌜ r ≡ meridian sidereal v ⌝ }
+{
+    let sine = sidereal.sine;
+    let cosine = sidereal.cosine;
+    let x = v.x;
+    let y = v.y;
+    let z = v.z;
+    Vector {
+        x: products_added(x, cosine, y, sine),
+        y: products_subtracted(y, cosine, x, sine),
+        z,
+    }
+}

@@ -1,0 +1,13 @@
+pub mod FloorsNear
+pub mod WeightedSum
+pub mod AnglesNear
+pub mod PowersNear
+pub mod MoonWeights
+pub mod MoonNear
+pub mod ConstantRows
+pub mod SunAngles
+pub mod SunNear
+pub mod Accurate
+pub mod TablesPinned
+pub mod CasesHold
+pub mod AcceptedInstants

@@ -1,0 +1,13 @@
+pub mod Instant
+pub mod Table
+pub mod MoonTerms
+pub mod Moon
+pub mod SunTerms
+pub mod Sun
+pub mod NutationTerms
+pub mod Nutation
+pub mod Sidereal
+pub mod ExactSums
+pub mod Accuracy
+pub mod Digest
+pub mod Cases
