@@ -4,7 +4,7 @@ ghost use Prim.Native.Nat.{_<_, _^_};
 ghost use lib.IntN.{pos, natAbs, _*ℤ_};
 ghost use lib.Signed.{mag};
 ghost use Rattle.arithmetic.specs.Floor.{⌊_÷_⌋, _modulo_};
-ghost use Rattle.numbers.specs.Whole.{sign, MulDiv};
+ghost use Rattle.numbers.specs.Whole.{sign, MulDiv, between};
 
 // 1, 0 or -1.
 pub fn sign_of(z: i64) -> i64
@@ -68,4 +68,14 @@ pub fn mul_div(c: i64, n: i64, d: u64) -> i64
     let second = floor_mod(first, d) as i64 * 65_536 + middle * n;
     let third = floor_mod(second, d) as i64 * 65_536 + low * n;
     (floor_div(first, d) * 65_536 + floor_div(second, d)) * 65_536 + floor_div(third, d)
+}
+
+// lo to hi, both included.
+pub fn is_between(lo: i64, x: i64, hi: i64) -> bool
+    ensures { λ r. ⌜ r ≡ between lo x hi ⌝ }
+{
+    if x < lo {
+        return false;
+    }
+    x <= hi
 }

@@ -1,7 +1,7 @@
 -- The laws of a batch: the search for a late instant, the writing of a buffer, and what keeps every sample within reach.
 use mathlib.Core.Bool.{Bool, cond, false, true}
 use mathlib.Core.List.{List, [], _∷_, append-assoc, map, map-append}
-use mathlib.Core.Path.{_∙_, _≡_, refl, subst, subst⁻¹}
+use mathlib.Core.Path.{_∙_, _≡_, ap, refl, subst, subst⁻¹, sym}
 use Prim.Native.Nat.{_*_, _+_, _-_, _/_, _<_, _^_, _≤_, suc, zero, zero-le, ℕ}
 use native.Mathlib.Nat.{le-of-lt, le-trans, lt-of-lt-of-le}
 use native.Mathlib.Numerals.{add-one}
@@ -21,10 +21,13 @@ use Rattle.number_rules.proofs.CalendarLaws.{day-after-last-is}
 use Rattle.numbers.proofs.Machine.{not-holds}
 use Rattle.number_rules.specs.Calendar.{day-count, day-number, days-from-2000, days-to-month, days-to-year, leap, month-length, year-length}
 use Rattle.sky.proofs.RequestLaws.{accepted}
-use Rattle.sky.specs.Batch.{filled, first-late, is-late, last-moment, later}
-use Rattle.sky.specs.Refusal.{first}
+use Rattle.sky.specs.Batch.{BatchAnswer, batch-answer, filled, first-late, is-late, last-moment, later}
+use Rattle.numbers.specs.Refusal.{OneAnswer, first}
+use Rattle.numbers.proofs.RefusalLaws.{never-late, never-none, number-tells, one-answer}
 use Rattle.sky.specs.Request.{date, elapsed, instant, start-refusals, utc}
 use Rattle.sky_vectors.specs.SkyRange.{Reachable}
+use Rattle.sky.specs.declared.batch.Batch.{Batch}
+use Rattle.sky.specs.declared.batch.Batch.the-variants.{Done, Late, Refused}
 use Rattle.sky.specs.declared.request.Start.{Start}
 use Rattle.sum_rules.proofs.AcceptedInstants.{clock-small, terrestrial-near, universal-near}
 use Rattle.sum_rules.specs.Instant.{Accepted, day, furthest}
@@ -141,3 +144,21 @@ sample-reachable s offset e in-time =
 pub utc-small : (s : Start) → first (start-refusals s) ≡ 0 → natAbs (utc s) ≤ 2 ^ 60
 unfolding utc
 utc-small s e = le-trans (clock-small (accepted s e)) (leb→le (36_890 * day) (2 ^ 60) tt)
+
+-- ---- a batch's answer is told from any other by its numbers
+refusal-same : {x y : BatchAnswer} → x ≡ y → x .refusal ≡ y .refusal
+refusal-same same = ap (λ (a : BatchAnswer). a .refusal) same
+
+batch-tells : (x y : Batch) → batch-answer x ≡ batch-answer y → x ≡ y
+batch-tells (Done m) (Done n) same = ap (λ (a : BatchAnswer). Done (a .count)) same
+batch-tells (Done m) (Refused r) same = absurd (never-none r (sym (refusal-same same)))
+batch-tells (Done m) (Late i) same = absurd (omega (arith, refusal-same same))
+batch-tells (Refused r) (Done n) same = absurd (never-none r (refusal-same same))
+batch-tells (Refused r) (Refused s) same = ap Refused (number-tells r s (refusal-same same))
+batch-tells (Refused r) (Late i) same = absurd (never-late r (refusal-same same))
+batch-tells (Late i) (Done n) same = absurd (omega (arith, refusal-same same))
+batch-tells (Late i) (Refused r) same = absurd (never-late r (sym (refusal-same same)))
+batch-tells (Late i) (Late j) same = ap (λ (a : BatchAnswer). Late (a .index)) same
+
+pub one-batch : {found : Batch} {rule : BatchAnswer} → batch-answer found ≡ rule → OneAnswer batch-answer rule found
+one-batch = one-answer batch-tells

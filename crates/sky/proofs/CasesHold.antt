@@ -1,12 +1,12 @@
 -- Every case by hand of 01 holds, in one statement over the list.
 use mathlib.Core.List.{List, [], _∷_, _++_, map}
 use mathlib.Core.Path.{refl}
+use Rattle.arithmetic.specs.Each.{Each, more, none}
 use Rattle.number_rules.specs.Cases as Numbers
 use Rattle.number_rules.proofs.CasesHold as NumbersHold
-use Rattle.number_rules.proofs.CasesHold.{Each, more, none}
 use Rattle.sum_rules.specs.Cases as Sums
 use Rattle.sum_rules.proofs.CasesHold as SumsHold
-use Rattle.sky.specs.Cases.{Case, Holds, cases, middles, of-numbers, of-sums}
+use Rattle.sky.specs.Cases.{Case, CasesHold, Holds, middles, of-numbers, of-sums}
 use Rattle.sky.specs.Heading.{clockwise, is-reduced, middle, middle-of}
 
 joined : (xs ys : List Case) → Each Holds xs → Each Holds ys → Each Holds (xs ++ ys)
@@ -25,7 +25,7 @@ middles-hold : Each Holds middles
 unfolding middle middle-of is-reduced clockwise
 middles-hold = more refl (more refl (more refl none))
 
-pub cases-hold : Each Holds cases
+pub cases-hold : CasesHold
 cases-hold =
     joined (map of-numbers Numbers.cases) (map of-sums Sums.cases ++ middles) (from-numbers Numbers.cases NumbersHold.cases-hold)
     (joined (map of-sums Sums.cases) middles (from-sums Sums.cases SumsHold.cases-hold) middles-hold)

@@ -1,100 +1,172 @@
--- Doubles within bounds: what is between two doubles rounds to one between them, a quotient by 2 or more is finite, and zero times what is finite is zero.
-use mathlib.Core.Bool.{Bool, _&&_, cond, false, true}
-use mathlib.Core.Path.{_≡_, refl, subst⁻¹}
-use Prim.Native.Nat.{_%_, _*_, _+_, _<_, _^_, _≤_, suc, zero, zero-le, ℕ}
-use native.Mathlib.Nat.{le-of-eq, le-of-lt, le-trans, mul-assoc, mul-comm, mul-le-mul-left, mul-le-mul-right, mul-left-comm, mul-pos, zero-mul}
+-- Doubles within bounds: what is at most a whole number up to 2⁵³, or 1 or more, is so when it is rounded, since rounding keeps the order.
+-- So a product is at most the product of two bounds, and a quotient by 1 or more at most the bound of what is divided.
+-- A zero times what is finite is a zero.
+use mathlib.Core.Bool.{Bool, _&&_, _||_, cond, false, true}
+use mathlib.Core.Path.{_≡_, refl, subst, subst⁻¹, sym}
+use Prim.Native.Nat.{_*_, _+_, _<_, _^_, _≤_, suc, zero, ℕ}
+use native.Mathlib.Nat.{le-of-eq, le-of-lt, le-trans, lt-irrefl, mul-assoc, mul-comm, mul-le-mul, mul-le-mul-right, mul-mul-mul-comm, mul-pos, zero-mul}
 use native.Mathlib.Omega.{arith}
-use lib.Dec.{T, eqb, eqb→eq, leb, lit<, ltb, ltb→lt}
-use lib.IntN.{pos, ℤ}
+use lib.Dec.{T, eqb, eqb→eq, lit<, ltb, ltb→lt}
+use lib.IntN.{natAbs, negsuc, pos, ℤ}
 use lib.Ieee as Ieee
 use lib.Ieee.{Float, binary64, down, fin, inf, nan, unlike, up}
-use lib.Ieee.Fits.{and-r, down-pos, round-is, up-pos}
+use lib.Ieee.Back.{round-whole}
+use lib.Ieee.Exact.{HasValue}
+use lib.Ieee.Fits.{down-pos, round-is}
 use lib.Ieee.Order.{round-mono}
-use lib.Ieee.Positive.{between, le→cross, positive}
-use lib.Ieee.Scale.{finite, round-same}
+use lib.Ieee.Positive.{above-of-le, first-pos, le→cross, through}
+use lib.Ieee.Scale.{round-same}
 use mir.Facts.{and-yes}
 use borrow.Author.Tests.{ne-eqb}
-use Rattle.sky.specs.Double.{IsZero, _*d_, _/d_, double, nearest}
+use Rattle.sky.specs.Air.{between-doubles}
+use Rattle.sky.specs.Double.{IsFinite, IsZero, _*d_, _/d_, double, nearest}
 
-pub holds : {b : Bool} → b ≡ true → T b
+holds : {b : Bool} → b ≡ true → T b
 holds e = subst⁻¹ T e tt
 
+-- finite, and at most this in size
+pub data AtMost : ℕ → Float → Type 0 where
+  bounded : {most n : ℕ} {s : Bool} {d : ℤ} → n * up d ≤ most * down d → AtMost most (fin s n d)
+
+-- finite, and 1 or more
+pub data AtLeast1 : Float → Type 0 where
+  from-one : {n : ℕ} {d : ℤ} → down d ≤ n * up d → AtLeast1 (fin false n d)
+
+pub bounded-finite : {most : ℕ} {x : Float} → AtMost most x → IsFinite x
+bounded-finite (bounded h) = tt
+
+-- ---- a value compared with a whole number
+less-or-level : (a b : ℕ) (p q r : Bool) → (T p → a < b) → (T q → a ≡ b) → T (p || (q && r)) → a ≤ b
+less-or-level a b true q r l e t = le-of-lt (l tt)
+less-or-level a b false true r l e t = le-of-eq (e tt)
+less-or-level a b false false r l e t = absurd t
+
+-- n·2ᵈ ≤ m·2ᵉ, which is a whole number
+to-whole : (most n m : ℕ) (d e : ℤ) → m * up e * 1 ≡ most * down e → n * up d * down e ≤ m * up e * down d → n * up d ≤ most * down d
+to-whole most n m d e v l = omega (arith, through (n * up d) (m * up e) most (down d) (down e) 1 (down-pos e) l (le-of-eq v))
+
+-- a value above zero, at most a whole number
+le-above : (most n : ℕ) (d : ℤ) (y : Float) → HasValue y false most 1 → T (Ieee.le (fin false n d) y) → n * up d ≤ most * down d
+unfolding Ieee.le
+le-above most n d nan v t = absurd v
+le-above most n d (inf r) v t = absurd v
+le-above most n d (fin true m e) v t = absurd (subst T (v .0) tt)
+le-above most n d (fin false m e) v t =
+    let a = n * up d * down e in
+    let b = m * up e * down d in
+    to-whole most n m d e (v .1) (less-or-level a b (ltb a b) (eqb a b) _ (ltb→lt a b) (eqb→eq a b) t)
+
+-- a value below zero, at least a whole number of either sign
+le-below : (most n : ℕ) (d : ℤ) (s : Bool) (y : Float) → HasValue y s most 1 → T (Ieee.le y (fin true n d)) → n * up d ≤ most * down d
+unfolding Ieee.le
+le-below most n d s nan v t = absurd v
+le-below most n d s (inf r) v t = absurd v
+le-below most n d s (fin r m e) v t = to-whole most n m d e (v .1) (go r t)
+  where
+    a : ℕ
+    a = n * up d * down e
+
+    b : ℕ
+    b = m * up e * down d
+
+    go : (r : Bool) → T (Ieee.le (fin r m e) (fin true n d)) → a ≤ b
+    go true t = less-or-level a b (ltb a b) (eqb b a) _ (ltb→lt a b) (λ t. sym (eqb→eq b a t)) t
+    go false t = less-or-level a b false (eqb b a) _ (λ t. absurd t) (λ t. sym (eqb→eq b a t)) t
+
+no-infinity : (most : ℕ) (s : Bool) (y : Float) → HasValue y s most 1 → (T (Ieee.le (inf false) y) → ⊥) × (T (Ieee.le y (inf true)) → ⊥)
+unfolding Ieee.le
+no-infinity most s nan v = absurd v
+no-infinity most s (inf r) v = absurd v
+no-infinity most s (fin r n d) v = (λ t. t, λ t. t)
+
+-- what lies from a whole number to a larger one is at most the larger in size
+between-most : (least most : ℕ) (s : Bool) (lo x hi : Float) → least ≤ most → HasValue lo s least 1 → HasValue hi false most 1
+    → T (Ieee.le lo x) → T (Ieee.le x hi) → AtMost most x
+unfolding Ieee.le
+between-most least most s lo nan hi h v w l u = absurd u
+between-most least most s lo (inf true) hi h v w l u = absurd (no-infinity least s lo v .1 l)
+between-most least most s lo (inf false) hi h v w l u = absurd (no-infinity most false hi w .0 u)
+between-most least most s lo (fin true n d) hi h v w l u = bounded (le-trans (le-below least n d s lo v l) (mul-le-mul-right (down d) h))
+between-most least most s lo (fin false n d) hi h v w l u = bounded (le-above most n d hi w u)
+
+valued : (z : ℤ) → natAbs z ≤ 2 ^ 53 → (s : Bool) × (HasValue (double z) s (natAbs z) 1)
+unfolding Ieee.ofInt
+valued (pos n) h = (false, round-whole binary64 false n h)
+valued (negsuc n) h = (true, round-whole binary64 true (suc n) h)
+
+pub within-most : (lo : ℤ) (most : ℕ) (x : Float) → natAbs lo ≤ most → most ≤ 2 ^ 53 → between-doubles (double lo) x (double (pos most)) ≡ true → AtMost most x
+unfolding Ieee.ofInt
+within-most lo most x h fits w =
+    let both = and-yes (Ieee.le (double lo) x) (Ieee.le x (double (pos most))) (holds w) in
+    let low = valued lo (le-trans h fits) in
+    between-most (natAbs lo) most (low .0) (double lo) x (double (pos most)) h (low .1) (round-whole binary64 false most fits) (both .0) (both .1)
+
 -- ---- rounding within bounds
--- finite, and 2 or more
-abbrev pub AtLeast2 : Float → Type 0
-AtLeast2 x = T (positive x) × T (Ieee.le (nearest 2 1) x)
-
-pub rounds-from-2 : (hi n d : ℕ) → T (positive (nearest hi 1)) → 0 < d → 2 * d ≤ n → n ≤ hi * d → AtLeast2 (nearest n d)
-unfolding Ieee.round
-rounds-from-2 hi n d p h l u =
-    let low = round-mono binary64 2 1 n d (lit< tt) h (omega arith) in
-    let high = round-mono binary64 n d hi 1 h (lit< tt) (omega arith) in
-    (between (nearest 2 1) (nearest n d) (nearest hi 1) tt p low high, low)
-
--- what is finite with one sign is finite with the other
-odd-finite : (w : ℕ) (s : Bool) (q k l : ℕ) → T (finite (Ieee.odd w s q k l))
+-- the size does not depend on the sign
+odd-most : (most w q k l : ℕ) (s : Bool) (y : Float) → HasValue y false most 1 → T (Ieee.le (Ieee.odd w false q k l) y) → AtMost most (Ieee.odd w s q k l)
 unfolding Ieee.odd
-odd-finite w s zero k l = tt
-odd-finite w s (suc q) k l = tt
-
-abbrev below-limit : ℕ → ℕ → Bool
-below-limit q k = ltb (q * 2 ^ k) (2 ^ (Ieee.low binary64 + suc (Ieee.emax binary64)))
+odd-most most w zero k l s y v u = bounded (le-above most _ _ y v u)
+odd-most most w (suc q) k l s y v u = bounded (le-above most _ _ y v u)
 
 abbrev written : Bool → ℕ → ℕ → Float
 written s q k = Ieee.odd (suc (Ieee.prec binary64)) s q k (Ieee.low binary64)
 
-units-either : (s : Bool) (q k : ℕ) → T (finite (Ieee.units binary64 false q k)) → T (finite (Ieee.units binary64 s q k))
+units-most : (most : ℕ) (s : Bool) (q k : ℕ) (y : Float) → HasValue y false most 1 → T (Ieee.le (Ieee.units binary64 false q k) y)
+    → AtMost most (Ieee.units binary64 s q k)
 unfolding Ieee.units
-units-either s q k t = go (below-limit q k) (written s q k) (written false q k) (odd-finite _ s q k _) t
+units-most most s q k y v l = go (ltb (q * 2 ^ k) (2 ^ (Ieee.low binary64 + suc (Ieee.emax binary64)))) l
   where
-    go : (c : Bool) (x y : Float) → T (finite x) → T (finite (cond c y (inf false))) → T (finite (cond c x (inf s)))
-    go true x y h t = h
-    go false x y h t = absurd t
+    go : (c : Bool) → T (Ieee.le (cond c (written false q k) (inf false)) y) → AtMost most (cond c (written s q k) (inf s))
+    go true l = odd-most most _ q k _ s y v l
+    go false l = absurd (no-infinity most false y v .0 l)
 
--- what is at most a finite value above zero, and no infinity below zero, is finite
-units-under : (q k : ℕ) (y : Float) → T (positive y) → T (Ieee.le (Ieee.units binary64 false q k) y) → T (finite (Ieee.units binary64 false q k))
-unfolding Ieee.units Ieee.le
-units-under q k y p l = under (below-limit q k) (written false q k) y (odd-finite _ false q k _) p l
-  where
-    under : (c : Bool) (x y : Float) → T (finite x) → T (positive y) → T (Ieee.le (cond c x (inf false)) y) → T (finite (cond c x (inf false)))
-    under true x y h p l = h
-    under false x nan h p l = absurd p
-    under false x (inf t) h p l = absurd p
-    under false x (fin true n d) h p l = absurd p
-    under false x (fin false n d) h p l = absurd l
+pub rounds-most : (s : Bool) (most n d : ℕ) → most ≤ 2 ^ 53 → 0 < d → n ≤ most * d → AtMost most (Ieee.round binary64 s n d)
+rounds-most s most n d fits h u =
+    let high = rw (round-is binary64 false n d) at (round-mono binary64 n d most 1 h (lit< tt) (omega arith)) in
+    rw (round-is binary64 s n d) (units-most most s _ _ (nearest most 1) (round-whole binary64 false most fits) high)
 
--- a fraction at most a whole number that is a double rounds to a finite value, with either sign
-pub rounds-finite : (s : Bool) (hi n d : ℕ) → T (positive (nearest hi 1)) → 0 < d → n ≤ hi * d → T (finite (Ieee.round binary64 s n d))
-rounds-finite s hi n d p h u =
-    let high = rw (round-is binary64 false n d) at (round-mono binary64 n d hi 1 h (lit< tt) (omega arith)) in
-    rw (round-is binary64 s n d) (units-either s _ _ (units-under _ _ (nearest hi 1) p high))
+one-or-more : (most : ℕ) (x : Float) → AtMost most x → T (Ieee.le (nearest 1 1) x) → AtLeast1 x
+unfolding Ieee.round
+one-or-more most (fin true n d) (bounded h) l = absurd (above-of-le (nearest 1 1) (fin true n d) tt l)
+one-or-more most (fin false n d) (bounded h) l =
+    from-one {n = n} {d = d} (omega (arith, le→cross (nearest 1 1) (fin false n d) tt (above-of-le (nearest 1 1) (fin false n d) tt l) l))
 
--- ---- a quotient by 2 or more of what is finite is finite
-cross : (p d e q k : ℕ) → p ≤ k * 2 * d → 2 * e ≤ q → p * e ≤ k * (q * d)
-cross p d e q k h g =
-    let a : p * e ≤ k * 2 * d * e = mul-le-mul-right e h in
-    let b : k * (2 * e * d) ≤ k * (q * d) = mul-le-mul-left k (mul-le-mul-right d g) in
-    let c : k * 2 * d * e ≡ k * (2 * e * d) = simp (mul-assoc, mul-comm, mul-left-comm) in
-    le-trans a (le-trans (le-of-eq c) b)
+pub rounds-least : (most n d : ℕ) → most ≤ 2 ^ 53 → 0 < d → d ≤ n → n ≤ most * d → AtLeast1 (nearest n d)
+rounds-least most n d fits h l u = one-or-more most (nearest n d) (rounds-most false most n d fits h u) (round-mono binary64 1 1 n d (lit< tt) h (omega arith))
 
-fits-size : (s : Bool) (n : ℕ) (d : ℤ) → T (Ieee.fits binary64 (fin s n d)) → n * up d ≤ 2 ^ 1023 * 2 * down d
-unfolding Ieee.fits
-fits-size s zero d h = rw zero-mul zero-le
-fits-size s (suc n) d h = le-of-lt (ltb→lt (suc n * up d) (2 ^ 1024 * down d) (and-r (eqb (suc n % 2) 1 && ltb (suc n) (2 ^ 53) && leb (down d) (2 ^ 1074)) _ h))
+-- ---- whole numbers, products and quotients
+pub whole-most : (z : ℤ) (most : ℕ) → natAbs z ≤ most → most ≤ 2 ^ 53 → AtMost most (double z)
+unfolding Ieee.ofInt
+whole-most (pos n) most h fits = rounds-most false most n 1 fits (lit< tt) (omega arith)
+whole-most (negsuc n) most h fits = rounds-most true most (suc n) 1 fits (lit< tt) (omega arith)
 
-pub quotient-finite : (y x : Float) → T (Ieee.fits binary64 y) → T (finite y) → AtLeast2 x → T (finite (y /d x))
+pub whole-least : (n : ℕ) → 0 < n → n ≤ 2 ^ 53 → AtLeast1 (double (pos n))
+unfolding Ieee.ofInt
+whole-least n h fits = rounds-least n n 1 fits (lit< tt) h (omega arith)
+
+pub product-most : {a b : ℕ} {x y : Float} → AtMost a x → AtMost b y → a * b ≤ 2 ^ 53 → AtMost (a * b) (x *d y)
+unfolding Ieee.mul
+product-most {a} {b} (bounded {n} {s} {d} h) (bounded {n = m} {s = r} {d = e} g) fits =
+    rounds-most (unlike s r) (a * b) (n * up d * (m * up e)) (down d * down e) fits (mul-pos (down-pos d) (down-pos e))
+    (rw (mul-mul-mul-comm a b (down d) (down e)) (mul-le-mul h g))
+
+pub product-least : {a b : ℕ} {x y : Float} → AtMost a x → AtMost b y → a * b ≤ 2 ^ 53 → AtLeast1 x → AtLeast1 y → AtLeast1 (x *d y)
+unfolding Ieee.mul
+product-least {a} {b} (bounded h) (bounded g) fits (from-one {n} {d} l) (from-one {n = m} {d = e} k) =
+    rounds-least (a * b) (n * up d * (m * up e)) (down d * down e) fits (mul-pos (down-pos d) (down-pos e)) (mul-le-mul l k)
+    (rw (mul-mul-mul-comm a b (down d) (down e)) (mul-le-mul h g))
+
+-- n/d ≤ most and 1 ≤ m/e
+cross : (most n d m e : ℕ) → n ≤ most * d → e ≤ m → n * e ≤ most * (m * d)
+cross most n d m e h l = rw (mul-comm m d, ← mul-assoc most d m) (mul-le-mul h l)
+
+pub quotient-most : {most : ℕ} {y x : Float} → AtMost most y → most ≤ 2 ^ 53 → AtLeast1 x → AtMost most (y /d x)
 unfolding Ieee.div
-quotient-finite nan x f t p = absurd t
-quotient-finite (inf s) x f t p = absurd t
-quotient-finite (fin s n d) nan f t p = absurd (p .0)
-quotient-finite (fin s n d) (inf r) f t p = absurd (p .0)
-quotient-finite (fin s n d) (fin true m e) f t p = absurd (p .0)
-quotient-finite (fin s n d) (fin false m e) f t p =
-    let above : 0 < m = ltb→lt 0 m (p .0) in
-    let two : 2 * down e ≤ m * up e = omega (arith, le→cross (nearest 2 1) (fin false m e) tt (p .0) (p .1)) in
-    rw (ne-eqb m 0 (λ z. omega arith))
-    (rounds-finite (unlike s false) (2 ^ 1023) (n * up d * down e) (m * up e * down d) tt (mul-pos (mul-pos above (up-pos e)) (down-pos d))
-    (cross (n * up d) (down d) (down e) (m * up e) (2 ^ 1023) (fits-size s n d f) two))
+quotient-most {most} (bounded {n} {s} {d} h) fits (from-one {n = m} {d = e} l) =
+    let above : 0 < m * up e = le-trans (down-pos e) l in
+    rw (ne-eqb m 0 (λ z. lt-irrefl 0 (rw z at (first-pos m (up e) above))))
+    (rounds-most (unlike s false) most (n * up d * down e) (m * up e * down d) fits (mul-pos above (down-pos d))
+    (cross most (n * up d) (down d) (m * up e) (down e) h l))
 
 -- ---- zero times what is finite, and over 1010
 zero-rounds : (s : Bool) (d : ℕ) → 0 < d → IsZero (Ieee.round binary64 s 0 d)
@@ -109,7 +181,7 @@ no-digits : (s : Bool) (n : ℕ) (d : ℤ) → IsZero (fin s n d) → n * up d �
 unfolding Ieee.eq Ieee.ofInt
 no-digits s n d z = omega (arith, eqb→eq (n * up d * 1) (0 * down d) (and-yes (eqb (n * up d * 1) (0 * down d)) _ (holds z) .0))
 
-pub zero-times : (x y : Float) → IsZero x → T (finite y) → IsZero (x *d y)
+pub zero-times : (x y : Float) → IsZero x → IsFinite y → IsZero (x *d y)
 unfolding Ieee.mul Ieee.eq Ieee.ofInt
 zero-times nan y z t = absurd (holds z)
 zero-times (inf s) y z t = absurd (holds z)

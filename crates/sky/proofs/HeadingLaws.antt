@@ -10,7 +10,11 @@ use lib.Signed.{leZ, ltZ}
 use mir.Facts.{and-yes}
 use borrow.Author.Tests.{eq-eqb, le-ltb, lt-ltb, ne-eqb}
 use Rattle.number_rules.specs.Angle.{full-turn, half-turn}
-use Rattle.sky.specs.Heading.{MiddleAnswer, clockwise, half-way, is-reduced, middle, middle-of}
+use Rattle.numbers.specs.Refusal.{OneAnswer}
+use Rattle.numbers.proofs.RefusalLaws.{never-none, number-tells, one-answer}
+use Rattle.sky.specs.Heading.{MiddleAnswer, clockwise, half-way, is-reduced, middle, middle-answer, middle-of}
+use Rattle.sky.specs.declared.heading.Middle.{Middle}
+use Rattle.sky.specs.declared.heading.Middle.the-variants.{Azimuth, Refused}
 
 -- what a test of `is_reduced` tells
 pub no-test : {r : Bool} {z x : ℤ} → r ≡ is-reduced z → z ≡ x → not r ≡ true → is-reduced x ≡ false
@@ -69,3 +73,13 @@ module _ (a b : ℕ) where
   pub clockwise-below : clockwise a b < full-turn
   unfolding clockwise
   clockwise-below = mod-lt (b + full-turn - a) (zero-lt-suc 35_999_999_999)
+
+-- ---- a middle is told from any other by its numbers
+middle-tells : (x y : Middle) → middle-answer x ≡ middle-answer y → x ≡ y
+middle-tells (Azimuth a) (Azimuth b) same = ap (λ (m : MiddleAnswer). Azimuth (m .azimuth)) same
+middle-tells (Azimuth a) (Refused r) same = absurd (never-none r (sym (ap (λ (m : MiddleAnswer). m .refusal) same)))
+middle-tells (Refused r) (Azimuth a) same = absurd (never-none r (ap (λ (m : MiddleAnswer). m .refusal) same))
+middle-tells (Refused r) (Refused s) same = ap Refused (number-tells r s (ap (λ (m : MiddleAnswer). m .refusal) same))
+
+pub one-middle : {found : Middle} {rule : MiddleAnswer} → middle-answer found ≡ rule → OneAnswer middle-answer rule found
+one-middle = one-answer middle-tells

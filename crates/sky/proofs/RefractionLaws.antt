@@ -1,19 +1,25 @@
 -- The raised elevation lies from a quarter degree to less than 93 degrees, so its sine is above zero.
+use mathlib.Core.Bool.{Bool, cond, false, true}
 use mathlib.Core.Path.{_∙_, _≡_, ap, refl}
 use Prim.Native.Nat.{_%_, _*_, _+_, _-_, _/_, _<_, _≤_, ℕ}
 use native.Mathlib.Decide.{decLt}
 use native.Mathlib.Nat.{div-lt-iff-lt-mul, le-div-iff-mul-le, mul-le-mul}
 use native.Mathlib.Omega.{arith}
 use lib.Dec.{leb, leb→le}
-use lib.IntN.{_+ℤ_, negsuc, pos, ℤ}
+use lib.IntN.{_+ℤ_, natAbs, negsuc, pos, ℤ}
+use lib.Ieee.{Float}
+use lib.Signed.{ltZ}
 use Rattle.arithmetic.specs.Floor.{⌊_÷_⌋}
 use Rattle.arithmetic.proofs.Table.{at-part}
 use Rattle.number_rules.specs.Angle.{quarter-turn}
 use Rattle.number_rules.specs.Sine.{entry, fold, quarter-sine, radians, rest-cosine, rest-sine, sine, sine-at}
 use Rattle.number_rules.specs.SineTable.{sines}
+use Rattle.numbers.proofs.Machine.{lit, not-less}
 use Rattle.number_rules.proofs.SineLaws.{fold-low, half-high, half-low, reduced-same, sign-low}
 use Rattle.number_rules.proofs.SineSteps.{radians-most, square-most}
-use Rattle.sky.specs.Refraction.{IsRefracted, raised}
+use Rattle.sky.specs.Double.{zero-degrees}
+use Rattle.sky.specs.Refraction.{IsRefracted, lowest-refracted, raised, refraction, refraction-in}
+use Rattle.sky.specs.declared.air.Air.{Air}
 
 -- e + 511,000,000 is above zero
 pub divisor : {e : ℤ} → IsRefracted e → (d : ℕ) × (e +ℤ pos 511_000_000 ≡ pos d) × (0 < d) × (d ≤ 9_511_000_000)
@@ -69,3 +75,20 @@ module _ (q : ℕ) (lo : 25_000_000 ≤ q) (hi : q ≤ 17_975_000_000) where
 
   pub sine-above : 0 < quarter-sine (fold q)
   sine-above = quarter-sine-above (fold q) (fold-range .0) (fold-range .1)
+
+pub raised-sine : {e : ℤ} → IsRefracted e → (s : ℕ) × (sine (raised e) ≡ pos s) × (0 < s)
+raised-sine h =
+    let range = raised-range h in
+    let q = range .0 in
+    let below : q ≤ 17_975_000_000 = omega (arith, range .3) in
+    (quarter-sine (fold q), ap sine (range .1) ∙ sine-is q (range .2) below, sine-above q (range .2) below)
+
+-- ---- a law of every refraction: it holds of zero, and where the formula is worked
+pub of-refraction : (Law : Float → Type 0) (air : Air) (e : ℤ) → natAbs e ≤ quarter-turn → Law zero-degrees → (IsRefracted e → Law (refraction-in air e))
+    → Law (refraction air e)
+unfolding refraction
+of-refraction Law air e size at-zero worked = go (ltZ e lowest-refracted) refl
+  where
+    go : (b : Bool) → ltZ e lowest-refracted ≡ b → Law (cond b zero-degrees (refraction-in air e))
+    go true below = at-zero
+    go false not-below = worked (record { not-below = not-less (lit e) (lit lowest-refracted) not-below; size = size })

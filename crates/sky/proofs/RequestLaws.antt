@@ -16,7 +16,9 @@ use mir.Val.{SFits, ofZ, toZ}
 use mir.ValLaws.{toZ-ofZ}
 use Rattle.arithmetic.proofs.Difference.{#_, _⊞_, _⊠_, by-le, by-lt, to-le, to-lt, ⊟_, ⟨_⟩}
 use Rattle.number_rules.proofs.CalendarLaws.{accepted-days, day-after-last-is, first-day-is}
-use Rattle.sky.specs.Refusal.{_else_, _unless_, between, first}
+use Rattle.numbers.proofs.RefusalLaws.{alone, first-append, none, none-append, passes}
+use Rattle.numbers.specs.Refusal.{_else_, _unless_, first}
+use Rattle.numbers.specs.Whole.{between}
 use Rattle.sky.specs.Request.{date, delta-limit, elapsed, instant, is-clock, point-refusals, start-refusals, ut1-limit}
 use Rattle.sky_vectors.specs.SkyRange.{OnEarth, Reachable}
 use Rattle.sky_vectors.specs.declared.station.Point.{Point}
@@ -29,6 +31,11 @@ use Rattle.sum_rules.specs.Instant as Unit
 pub tested : (lo x hi : ℤ) {r : Bool} → SFits w64 x → r ≡ between lo (toZ w64 (ofZ w64 x)) hi → between lo x hi ≡ r
 tested lo x hi f e = sym (e ∙ ap (λ (z : ℤ). between lo z hi) (toZ-ofZ w64 x f))
 
+-- the verdict on a number that must lie between two
+pub judged-between : (n : ℕ) (lo x hi : ℤ) {v : ℕ} {passes : Bool} → SFits w64 x → v ≡ n unless passes → passes ≡ between lo (toZ w64 (ofZ w64 x)) hi
+    → v ≡ first (n unless between lo x hi ∷ [])
+judged-between n lo x hi f e b = alone (e ∙ ap (λ (p : Bool). n unless p) (sym (tested lo x hi f b)))
+
 -- ---- a check that passes
 pub between-le : (lo x hi : ℤ) → between lo x hi ≡ true → (lo ≤ℤ x) × (x ≤ℤ hi)
 unfolding between
@@ -37,34 +44,6 @@ between-le lo x hi e = let both = and-yes (leZ lo x) (leZ x hi) (subst⁻¹ T e 
 pub between-size : (a m : ℕ) (x : ℤ) → a ≤ m → between (minus a) x (pos m) ≡ true → natAbs x ≤ m
 between-size a m (pos n) h e = omega (arith, to-le (# n) (# m) (between-le (minus a) (pos n) (pos m) e .1))
 between-size a m (negsuc n) h e = omega (arith, to-le (⊟ (# a)) ⟨ negsuc n ⟩ (between-le (minus a) (negsuc n) (pos m) e .0))
-
-pub passes : (n : ℕ) (b : Bool) → suc n unless b ≡ 0 → b ≡ true
-passes n true e = refl
-passes n false e = absurd (omega arith)
-
--- ---- a list of checks
-else-none : (n m : ℕ) → n else m ≡ 0 → (n ≡ 0) × (m ≡ 0)
-else-none n m e = go (eqb n 0) (eqb-true n 0) (eqb-false n 0) e
-  where
-    go : (b : Bool) → (b ≡ true → n ≡ 0) → (b ≡ false → n ≡ 0 → ⊥) → cond b m n ≡ 0 → (n ≡ 0) × (m ≡ 0)
-    go true is isn't e = (is refl, e)
-    go false is isn't e = absurd (isn't refl e)
-
-pub none : (n : ℕ) (rest : List ℕ) → first (n ∷ rest) ≡ 0 → (n ≡ 0) × (first rest ≡ 0)
-unfolding first
-none n rest e = else-none n (first rest) e
-
-pub first-append : (xs ys : List ℕ) → first (xs ++ ys) ≡ first xs else first ys
-unfolding first
-first-append [] ys = refl
-first-append (n ∷ xs) ys = go (eqb n 0) refl (first-append xs ys)
-  where
-    go : (b : Bool) → eqb n 0 ≡ b → first (xs ++ ys) ≡ first xs else first ys → n else first (xs ++ ys) ≡ (n else first xs) else first ys
-    go true e rest = rw e rest
-    go false e rest = rw (e, e) refl
-
-pub none-append : (xs ys : List ℕ) → first (xs ++ ys) ≡ 0 → (first xs ≡ 0) × (first ys ≡ 0)
-none-append xs ys e = else-none (first xs) (first ys) (sym (first-append xs ys) ∙ e)
 
 -- ---- the clock
 pub record Clock (s : Start) : Type 0 where
@@ -178,11 +157,3 @@ module _ (s : Start) (p : Point) (rest : List ℕ) where
 
     pub rest-passes : first rest ≡ 0
     rest-passes = none-append (point-refusals p) rest further .1
-
-pub first-one : (n : ℕ) → first (n ∷ []) ≡ n
-unfolding first
-first-one n = go (eqb n 0) (eqb-true n 0)
-  where
-    go : (b : Bool) → (b ≡ true → n ≡ 0) → cond b 0 n ≡ n
-    go true none = sym (none refl)
-    go false none = refl

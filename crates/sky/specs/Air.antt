@@ -6,7 +6,7 @@ use lib.IntN.{negsuc, pos}
 use lib.Ieee as Ieee
 use lib.Ieee.{Float}
 use Rattle.sky.specs.Double.{double}
-use Rattle.sky.specs.Refusal.{_unless_}
+use Rattle.numbers.specs.Refusal.{_unless_}
 use Rattle.sky.specs.declared.air.Air.{Air}
 use Rattle.sky.specs.declared.air.Air.the-variants.{Measured, None, Standard}
 
@@ -17,17 +17,17 @@ standard-pressure = double (pos 1010)
 abbrev pub standard-temperature : Float
 standard-temperature = double (pos 10)
 
--- lo to hi, both included; a float that is not a number is within nothing
-abbrev pub within : Float → Float → Float → Bool
-within lo x hi = Ieee.le lo x && Ieee.le x hi
+-- lo to hi, both included; a float that is not a number is between nothing
+abbrev pub between-doubles : Float → Float → Float → Bool
+between-doubles lo x hi = Ieee.le lo x && Ieee.le x hi
 
 -- measured pressure 0 to 1200 mbar
 abbrev pub pressure-passes : Float → Bool
-pressure-passes P = within (double (pos 0)) P (double (pos 1200))
+pressure-passes P = between-doubles (double (pos 0)) P (double (pos 1200))
 
 -- measured temperature -80 to 80 °C
 abbrev pub temperature-passes : Float → Bool
-temperature-passes T = within (double (negsuc 79)) T (double (pos 80))
+temperature-passes T = between-doubles (double (negsuc 79)) T (double (pos 80))
 
 unfoldable pub air-refusals : Air → List ℕ
 air-refusals None = []

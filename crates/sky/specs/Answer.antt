@@ -1,12 +1,12 @@
 -- The answers to a request for a place (01, "A request and its numbered refusals"): a refused answer of any kind carries the number and zeros elsewhere.
 use mathlib.Core.Bool.{cond}
 use mathlib.Core.List.{List, _++_}
-use Prim.Native.Nat.{ℕ, _<_}
+use Prim.Native.Nat.{ℕ}
 use lib.Dec.{eqb}
 use lib.IntN.{pos}
 use Rattle.sky.specs.Air.{air-refusals}
 use Rattle.sky_vectors.specs.Place.{place-at}
-use Rattle.sky.specs.Refusal.{first}
+use Rattle.numbers.specs.Refusal.{first, number}
 use Rattle.sky.specs.Request.{instant, point-refusals, start-refusals}
 use Rattle.sky.specs.Shown.{nothing-shown, shown}
 use Rattle.sky.specs.declared.air.Air.{Air}
@@ -30,16 +30,11 @@ nowhere = record { azimuth = pos 0; elevation = pos 0 }
 
 abbrev pub place-answer : PlaceAnswer → Answer Place
 place-answer (Places.Seen place) = record { refusal = 0; value = place }
-place-answer (Places.Refused n) = record { refusal = n; value = nowhere }
-
--- a refused answer has a number, by which it is told from a place
-abbrev pub Numbered : PlaceAnswer → Type 0
-Numbered (Places.Seen place) = 0 < 1
-Numbered (Places.Refused n) = 0 < n
+place-answer (Places.Refused refusal) = record { refusal = number refusal; value = nowhere }
 
 abbrev pub shown-answer : ShownAnswer → Answer Shown
 shown-answer (Shows.Seen place) = record { refusal = 0; value = place }
-shown-answer (Shows.Refused n) = record { refusal = n; value = nothing-shown }
+shown-answer (Shows.Refused refusal) = record { refusal = number refusal; value = nothing-shown }
 
 -- 1 to 11
 abbrev pub request-refusals : Start → Point → Air → List ℕ

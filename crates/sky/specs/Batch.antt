@@ -8,8 +8,8 @@ use lib.ListN.{drop, getD, length}
 use lib.Signed.{ltZ}
 use Rattle.sky_vectors.specs.Place.{place-at}
 use Rattle.sky_vectors.specs.SkyRange.{Reachable}
-use Rattle.sky.specs.Refusal.{_unless_, first}
-use Rattle.sky.specs.Request.{point-refusals, start-refusals, utc}
+use Rattle.numbers.specs.Refusal.{_unless_, first, number}
+use Rattle.sky.specs.Request.{moved, point-refusals, start-refusals, utc}
 use Rattle.sky.specs.declared.batch.Batch.{Batch}
 use Rattle.sky.specs.declared.batch.Batch.the-variants.{Done, Late, Refused}
 use Rattle.sky_vectors.specs.declared.geocentric.Body.{Body}
@@ -24,10 +24,10 @@ pub record BatchAnswer : Type 0 where
   pub index : ℕ
   pub count : ℕ
 
-abbrev pub answer-of : Batch → BatchAnswer
-answer-of (Done n) = record { refusal = 0; index = 0; count = n }
-answer-of (Refused n) = record { refusal = n; index = 0; count = 0 }
-answer-of (Late i) = record { refusal = 13; index = i; count = 0 }
+abbrev pub batch-answer : Batch → BatchAnswer
+batch-answer (Done n) = record { refusal = 0; index = 0; count = n }
+batch-answer (Refused refusal) = record { refusal = number refusal; index = 0; count = 0 }
+batch-answer (Late i) = record { refusal = 13; index = i; count = 0 }
 
 -- 2100-12-31 23:59:59.9 UTC
 unfoldable pub last-moment : ℤ
@@ -67,7 +67,7 @@ batch s p offsets m n =
 
 -- offsets are added to the start
 abbrev pub later : Instant → ℕ → Instant
-later start offset = record { ut = start .ut +ℤ pos offset; tt = start .tt +ℤ pos offset }
+later start offset = moved start (pos offset)
 
 -- entry i holds the place at offset i, the rest keeps its contents
 unfoldable pub filled : (ℕ → ℤ) → List ℕ → List ℤ → List ℤ

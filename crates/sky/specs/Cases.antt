@@ -2,6 +2,7 @@
 use mathlib.Core.List.{List, [], _∷_, _++_, map}
 use mathlib.Core.Path.{_≡_}
 use lib.IntN.{ℤ, pos}
+use Rattle.arithmetic.specs.Each.{Each}
 use Rattle.number_rules.specs.Cases as Numbers
 use Rattle.sum_rules.specs.Cases as Sums
 use Rattle.sky.specs.Heading.{MiddleAnswer, middle}
@@ -24,3 +25,7 @@ middles =
 
 abbrev pub cases : List Case
 cases = map of-numbers Numbers.cases ++ (map of-sums Sums.cases ++ middles)
+
+-- every one of them holds
+abbrev pub CasesHold : Type 0
+CasesHold = Each Holds cases

@@ -5,6 +5,7 @@ use lib.Dec.{eqb, ltb}
 use lib.IntN.{ℤ, pos, natAbs}
 use lib.Signed.{leZ, ltZ}
 use Rattle.number_rules.specs.Angle.{full-turn, half-turn}
+use Rattle.numbers.specs.Refusal.{number}
 use Rattle.sky.specs.declared.heading.Middle.{Middle}
 use Rattle.sky.specs.declared.heading.Middle.the-variants.{Azimuth, Refused}
 
@@ -13,9 +14,9 @@ pub record MiddleAnswer : Type 0 where
   pub refusal : ℕ
   pub azimuth : ℕ
 
-abbrev pub answer-of : Middle → MiddleAnswer
-answer-of (Azimuth a) = record { refusal = 0; azimuth = a }
-answer-of (Refused n) = record { refusal = n; azimuth = 0 }
+abbrev pub middle-answer : Middle → MiddleAnswer
+middle-answer (Azimuth a) = record { refusal = 0; azimuth = a }
+middle-answer (Refused refusal) = record { refusal = number refusal; azimuth = 0 }
 
 -- 0 to 35,999,999,999
 unfoldable pub is-reduced : ℤ → Bool

@@ -8,9 +8,10 @@ use lib.Signed.{_≤ℤ_, ltZ}
 use Rattle.arithmetic.specs.Floor.{⌊_÷_⌋}
 use Rattle.number_rules.specs.Angle.{quarter-turn}
 use Rattle.numbers.specs.declared.sine.SineCosine.{SineCosine}
-use Rattle.sky.specs.Air.{standard-pressure, standard-temperature, temperature-passes}
-use Rattle.sky.specs.Double.{IsZero, _+d_, _*d_, _/d_, double, nearest, zero-degrees}
+use Rattle.sky.specs.Air.{air-refusals, standard-pressure, standard-temperature, temperature-passes}
+use Rattle.sky.specs.Double.{IsFinite, IsZero, _+d_, _*d_, _/d_, double, nearest, zero-degrees}
 use Rattle.sky_vectors.specs.Product.{sine-cosine}
+use Rattle.numbers.specs.Refusal.{first}
 use Rattle.sky.specs.declared.air.Air.{Air}
 use Rattle.sky.specs.declared.air.Air.the-variants.{Measured, None, Standard}
 
@@ -50,3 +51,7 @@ abbrev pub ZeroAtZeroPressure : Type 0
 ZeroAtZeroPressure =
     (P T : Float) (e : ℤ) → IsZero P → temperature-passes T ≡ true → natAbs e ≤ quarter-turn
     → IsZero (refraction (Measured P T) e)
+
+-- an accepted refraction is a finite number: in every air that checks 10 and 11 let pass, at every elevation
+abbrev pub FiniteWhereAccepted : Type 0
+FiniteWhereAccepted = (air : Air) (e : ℤ) → first (air-refusals air) ≡ 0 → natAbs e ≤ quarter-turn → IsFinite (refraction air e)

@@ -1,7 +1,11 @@
 // The air of a request, and checks 10 and 11 on it.
+use numbers::refusal::Refusal;
+use numbers::refusal::Verdict;
+use numbers::refusal::or_else;
+use numbers::refusal::unless;
 ghost use mathlib.Core.Path.{_≡_};
-ghost use Rattle.sky.specs.Air.{within, air-refusals};
-ghost use Rattle.sky.specs.Refusal.{first};
+ghost use Rattle.numbers.specs.Refusal.{first, verdict-number};
+ghost use Rattle.sky.specs.Air.{between-doubles, air-refusals};
 
 // Measured with a pressure in mbar and a temperature in °C.
 pub enum Air {
@@ -15,28 +19,24 @@ pub const STANDARD_PRESSURE: f64 = 1010.0;
 
 pub const STANDARD_TEMPERATURE: f64 = 10.0;
 
-// A NaN is within nothing.
-fn within(lo: f64, x: f64, hi: f64) -> bool
-    ensures { λ r. ⌜ r ≡ within lo x hi ⌝ }
+// A NaN is between nothing.
+fn is_between(lo: f64, x: f64, hi: f64) -> bool
+    ensures { λ r. ⌜ r ≡ between-doubles lo x hi ⌝ }
 {
     lo <= x && x <= hi
 }
 
-// The first of checks 10 and 11 that refuses, or 0.
-pub fn air_refusal(air: Air) -> u8
-    ensures { λ r. ⌜ r ≡ first (air-refusals air) ⌝ }
+// The first of checks 10 and 11 that refuses.
+pub fn air_verdict(air: Air) -> Verdict
+    ensures { λ r. ⌜ verdict-number r ≡ first (air-refusals air) ⌝ }
 {
     match air {
-        Air::None => 0,
-        Air::Standard => 0,
-        Air::Measured(p, t) => {
-            if !within(0.0, p, 1200.0) {
-                10
-            } else if !within(-80.0, t, 80.0) {
-                11
-            } else {
-                0
-            }
+        Air::None => Verdict::Passed,
+        Air::Standard => Verdict::Passed,
+        Air::Measured(pressure, temperature) => {
+            let by_pressure = unless(Refusal::Pressure, is_between(0.0, pressure, 1200.0));
+            let by_temperature = unless(Refusal::Temperature, is_between(-80.0, temperature, 80.0));
+            or_else(by_pressure, by_temperature)
         }
     }
 }

@@ -1,64 +1,79 @@
 // The place of a body, and the place as it is shown: the answer to any request, or the one refusal.
 use super::air::Air;
-use super::air::air_refusal;
-use sky_vectors::place::Place;
-use sky_vectors::place::place_at;
-use sky_vectors::geocentric::Body;
-use sky_vectors::station::Point;
+use super::air::air_verdict;
 use super::request::Start;
 use super::request::instant_of;
-use super::request::or_else;
-use super::request::point_refusal;
-use super::request::start_refusal;
+use super::request::point_verdict;
+use super::request::start_verdict;
 use super::shown::Shown;
 use super::shown::shown_at;
+use numbers::refusal::Refusal;
+use numbers::refusal::Verdict;
+use numbers::refusal::or_else;
 use numbers::sine_table::table;
+use sky_vectors::geocentric::Body;
+use sky_vectors::place::Place;
+use sky_vectors::place::place_at;
+use sky_vectors::station::Point;
 ghost use mathlib.Core.Path.{_≡_};
-ghost use Rattle.sky.specs.Refusal.{first};
-ghost use Rattle.sky.specs.Answer.{Numbered, place-answer, shown-answer, request-refusals, place, shown-place};
+ghost use Rattle.number_rules.specs.SineTable.{sines};
+ghost use Rattle.numbers.specs.Refusal.{OneAnswer, first, verdict-number};
+ghost use Rattle.sky.specs.Answer.{place-answer, shown-answer, request-refusals, place, shown-place};
+ghost use Rattle.sky.specs.Demand3.{PlaceNear};
 
-// One of 1 to 11 where refused.
 pub enum PlaceAnswer {
     Seen(Place),
-    Refused(u8),
+    Refused(Refusal),
 }
 
 pub enum ShownAnswer {
     Seen(Shown),
-    Refused(u8),
+    Refused(Refusal),
 }
 
-// The first of 1 to 11 that applies, or 0.
-fn request_refusal(start: Start, point: Point, air: Air) -> u8
-    ensures { λ r. ⌜ r ≡ first (request-refusals start point air) ⌝ }
+// The first of 1 to 11 that applies.
+fn request_verdict(start: Start, point: Point, air: Air) -> Verdict
+    ensures { λ r. ⌜ verdict-number r ≡ first (request-refusals start point air) ⌝ }
 {
-    let by_start = start_refusal(start);
-    let by_point = point_refusal(point);
-    let by_air = air_refusal(air);
+    let by_start = start_verdict(start);
+    let by_point = point_verdict(point);
+    let by_air = air_verdict(air);
     or_else(by_start, or_else(by_point, by_air))
+}
+
+// The place, by a sine table that is lent.
+fn place_in(
+    table: &[u32; 361],
+    start: Start,
+    body: Body,
+    point: Point,
+    air: Air,
+) -> PlaceAnswer
+    requires { ⌜ now table ≡ sines ⌝ }
+    ensures { λ r. ⌜ OneAnswer place-answer (place start body point air) r ⌝ }
+{
+    match request_verdict(start, point, air) {
+        Verdict::Passed => PlaceAnswer::Seen(place_at(table, body, point, instant_of(start))),
+        Verdict::Refused(refusal) => PlaceAnswer::Refused(refusal),
+    }
 }
 
 // Azimuth from north over east, and elevation without refraction, in 10⁻⁸ degree. The air is only judged.
 pub fn place(start: Start, body: Body, point: Point, air: Air) -> PlaceAnswer
-    ensures { λ r. ⌜ place-answer r ≡ place start body point air ⌝ }
-    ensures { λ r. ⌜ Numbered r ⌝ }
+    ensures { λ r. ⌜ OneAnswer place-answer (place start body point air) r ⌝ }
+    ensures { λ _. ⌜ PlaceNear start body point air ⌝ }
 {
-    let refusal = request_refusal(start, point, air);
-    if refusal != 0 {
-        return PlaceAnswer::Refused(refusal);
-    }
-    PlaceAnswer::Seen(place_at(&table(), body, point, instant_of(start)))
+    place_in(&table(), start, body, point, air)
 }
 
 // Azimuth from north over east, elevation with refraction, and the refraction, in degrees.
 pub fn shown_place(start: Start, body: Body, point: Point, air: Air) -> ShownAnswer
-    ensures { λ r. ⌜ shown-answer r ≡ shown-place start body point air ⌝ }
+    ensures { λ r. ⌜ OneAnswer shown-answer (shown-place start body point air) r ⌝ }
+    ensures { λ _. ⌜ PlaceNear start body point air ⌝ }
 {
-    let refusal = request_refusal(start, point, air);
-    if refusal != 0 {
-        return ShownAnswer::Refused(refusal);
-    }
     let table = table();
-    let place = place_at(&table, body, point, instant_of(start));
-    ShownAnswer::Seen(shown_at(&table, air, place))
+    match place_in(&table, start, body, point, air) {
+        PlaceAnswer::Seen(place) => ShownAnswer::Seen(shown_at(&table, air, place)),
+        PlaceAnswer::Refused(refusal) => ShownAnswer::Refused(refusal),
+    }
 }

@@ -4,10 +4,14 @@ use sky_vectors::geocentric::Body;
 use sky_vectors::station::Point;
 use super::request::Start;
 use super::request::instant_of;
-use super::request::or_else;
-use super::request::point_refusal;
-use super::request::start_refusal;
+use super::request::moved;
+use super::request::point_verdict;
+use super::request::start_verdict;
 use super::request::utc_of;
+use numbers::refusal::Refusal;
+use numbers::refusal::Verdict;
+use numbers::refusal::or_else;
+use numbers::refusal::unless;
 use numbers::sine_table::table;
 use sum_rules::instant::DAY;
 use sum_rules::instant::Instant;
@@ -18,15 +22,16 @@ ghost use lib.ListN.{length};
 ghost use Rattle.number_rules.specs.SineTable.{sines};
 ghost use mathlib.Core.Bool.{_&&_};
 ghost use lib.Dec.{leb};
-ghost use Rattle.sky.specs.Refusal.{_unless_};
+ghost use Rattle.numbers.specs.Refusal.{OneAnswer, _unless_, verdict-number};
+ghost use Rattle.sky.specs.Demand3.{SamplesNear};
 ghost use Rattle.sky.specs.Request.{instant};
-ghost use Rattle.sky_vectors.specs.SkyRange.{OnEarth, Reachable, AllReachable};
-ghost use Rattle.sky.specs.Batch.{answer-of, is-late, first-late, batch, later, filled, azimuth-at, elevation-at, left-in};
+ghost use Rattle.sky_vectors.specs.SkyRange.{OnEarth, Reachable};
+ghost use Rattle.sky.specs.Batch.{AllReachable, batch-answer, is-late, first-late, batch, later, filled, azimuth-at, elevation-at, left-in};
 
 // The count, one of 1 to 9 or 12, or the index of the first bad offset (13).
 pub enum Batch {
     Done(usize),
-    Refused(u8),
+    Refused(Refusal),
     Late(usize),
 }
 
@@ -56,25 +61,20 @@ fn first_late(start: i64, offsets: &[u32]) -> usize
 }
 
 // 12, where a buffer is shorter than the list.
-fn room_refusal(count: usize, azimuths: usize, elevations: usize) -> u8
-    ensures { λ r. ⌜ r ≡ 12 unless (leb count azimuths && leb count elevations) ⌝ }
+fn room_verdict(count: usize, azimuths: usize, elevations: usize) -> Verdict
+    ensures { λ r. ⌜ verdict-number r ≡ 12 unless (leb count azimuths && leb count elevations) ⌝ }
 {
     if azimuths < count {
-        return 12;
+        return Verdict::Refused(Refusal::ShortBuffer);
     }
-    if elevations < count {
-        return 12;
-    }
-    0
+    unless(Refusal::ShortBuffer, count <= elevations)
 }
 
 fn later(start: Instant, offset: u32) -> Instant
     requires { ⌜ Reachable (later start offset) ⌝ }
     ensures { λ r. ⌜ r ≡ later start offset ⌝ }
 {
-    let ut = start.ut + offset as i64;
-    let tt = start.tt + offset as i64;
-    Instant { ut, tt }
+    moved(start, offset as i64)
 }
 
 // Entry i is the place at offset i. Every instant is accepted and both buffers are long enough.
@@ -112,15 +112,16 @@ pub fn places_at(
     azimuths: &mut [i64],
     elevations: &mut [i64],
 ) -> Batch
-    ensures { λ r. ⌜ answer-of r ≡ batch start point (now (offsets .entry)) (length (now (azimuths .entry))) (length (now (elevations .entry))) ⌝ }
-    ensures { λ r. ⌜ now (azimuths .exit) ≡ left-in (answer-of r) (azimuth-at body point (instant start)) (now (offsets .entry)) (now (azimuths .entry)) ⌝ }
-    ensures { λ r. ⌜ now (elevations .exit) ≡ left-in (answer-of r) (elevation-at body point (instant start)) (now (offsets .entry)) (now (elevations .entry)) ⌝ }
+    ensures { λ r. ⌜ OneAnswer batch-answer (batch start point (now (offsets .entry)) (length (now (azimuths .entry))) (length (now (elevations .entry)))) r ⌝ }
+    ensures { λ r. ⌜ now (azimuths .exit) ≡ left-in (batch-answer r) (azimuth-at body point (instant start)) (now (offsets .entry)) (now (azimuths .entry)) ⌝ }
+    ensures { λ r. ⌜ now (elevations .exit) ≡ left-in (batch-answer r) (elevation-at body point (instant start)) (now (offsets .entry)) (now (elevations .entry)) ⌝ }
+    ensures { λ _. ⌜ SamplesNear start point (now (offsets .entry)) (length (now (azimuths .entry))) (length (now (elevations .entry))) ⌝ }
 {
-    let by_start = start_refusal(start);
-    let by_point = point_refusal(point);
-    let by_room = room_refusal(offsets.len(), azimuths.len(), elevations.len());
-    let refusal = or_else(by_start, or_else(by_point, by_room));
-    if refusal != 0 {
+    let by_start = start_verdict(start);
+    let by_point = point_verdict(point);
+    let by_room = room_verdict(offsets.len(), azimuths.len(), elevations.len());
+    let verdict = or_else(by_start, or_else(by_point, by_room));
+    if let Verdict::Refused(refusal) = verdict {
         return Batch::Refused(refusal);
     }
     let late = first_late(utc_of(start), offsets);

@@ -1,13 +1,15 @@
 // The middle of two azimuths, the short way round.
 use numbers::angle::Angle;
+use numbers::refusal::Refusal;
 ghost use mathlib.Core.Path.{_≡_};
 ghost use Prim.Native.Nat.{_<_};
 ghost use Rattle.number_rules.specs.Angle.{full-turn};
-ghost use Rattle.sky.specs.Heading.{is-reduced, clockwise, half-way, middle, answer-of};
+ghost use Rattle.numbers.specs.Refusal.{OneAnswer};
+ghost use Rattle.sky.specs.Heading.{is-reduced, clockwise, half-way, middle, middle-answer};
 
 pub enum Middle {
     Azimuth(u64),
-    Refused(u8),
+    Refused(Refusal),
 }
 
 fn is_reduced(x: i64) -> bool
@@ -34,19 +36,19 @@ fn half_way(from: u64, arc: u64) -> u64
 
 // From the end whose short way to the other runs clockwise, half of the arc on.
 pub fn middle_azimuth(a: i64, b: i64) -> Middle
-    ensures { λ r. ⌜ answer-of r ≡ middle a b ⌝ }
+    ensures { λ r. ⌜ OneAnswer middle-answer (middle a b) r ⌝ }
 {
     if !is_reduced(a) {
-        return Middle::Refused(15);
+        return Middle::Refused(Refusal::NotReduced);
     }
     if !is_reduced(b) {
-        return Middle::Refused(15);
+        return Middle::Refused(Refusal::NotReduced);
     }
     let start = a as u64;
     let end = b as u64;
     let arc = clockwise(start, end);
     if arc == Angle::HALF {
-        Middle::Refused(14)
+        Middle::Refused(Refusal::Opposite)
     } else if arc < Angle::HALF {
         Middle::Azimuth(half_way(start, arc))
     } else {

@@ -1,16 +1,22 @@
-// A start, a body and a point, the checks 1 to 9 on them, and the start's instant.
-use sky_vectors::station::Point;
+// A start, the checks 1 to 9 on a request, and the start's instant.
 use numbers::calendar::DayCount;
 use numbers::calendar::day_count;
+use numbers::refusal::Refusal;
+use numbers::refusal::Verdict;
+use numbers::refusal::or_else;
+use numbers::refusal::unless;
+use numbers::whole::is_between;
+use sky_vectors::station::Point;
 use sum_rules::instant::DAY;
 use sum_rules::instant::Instant;
 use sum_rules::instant::SECOND;
 use sums::instant::instant_at;
 ghost use mathlib.Core.Path.{_≡_};
 ghost use mathlib.Core.Bool.{true};
-ghost use Rattle.number_rules.specs.Calendar.{answer-of};
-ghost use Rattle.sky.specs.Refusal.{first, between, _else_};
-ghost use Rattle.sky.specs.Request.{date, is-clock, start-refusals, point-refusals, elapsed, utc, instant};
+ghost use Rattle.numbers.specs.DayCount.{count-answer};
+ghost use Rattle.numbers.specs.Refusal.{OneAnswer, first, verdict-number};
+ghost use Rattle.sky_vectors.specs.SkyRange.{Reachable};
+ghost use Rattle.sky.specs.Request.{date, is-clock, date-refusals, clock-refusals, scale-refusals, start-refusals, point-refusals, elapsed, utc, instant, moved};
 
 // UTC in the Gregorian calendar, UT1 minus UTC, and delta-T. The last three count units of time (SECOND to a second).
 #[repr(C)]
@@ -31,44 +37,28 @@ const UT1: i64 = (9 * SECOND / 10) as i64;
 
 const DELTA: i64 = (8_000 * SECOND) as i64;
 
-pub fn is_between(lo: i64, x: i64, hi: i64) -> bool
-    ensures { λ r. ⌜ r ≡ between lo x hi ⌝ }
-{
-    if x < lo {
-        return false;
-    }
-    x <= hi
-}
-
-// The first refusal, or the second where the first is none.
-pub fn or_else(refusal: u8, next: u8) -> u8
-    ensures { λ r. ⌜ r ≡ refusal else next ⌝ }
-{
-    if refusal == 0 { next } else { refusal }
-}
-
 fn date_of(start: Start) -> DayCount
-    ensures { λ r. ⌜ answer-of r ≡ date start ⌝ }
+    ensures { λ r. ⌜ OneAnswer count-answer (date start) r ⌝ }
 {
     day_count(start.year, start.month, start.day)
 }
 
-// 1, 2 or 3, or 0 where the date is accepted.
-fn refusal_in(date: DayCount) -> u8
-    ensures { λ r. ⌜ r ≡ answer-of date .refusal ⌝ }
+// 1 to 3.
+pub fn date_verdict(date: DayCount) -> Verdict
+    ensures { λ r. ⌜ verdict-number r ≡ first (date-refusals (count-answer date)) ⌝ }
 {
     match date {
-        DayCount::Days(_) => 0,
-        DayCount::Refused(n) => n,
+        DayCount::Days(_) => Verdict::Passed,
+        DayCount::Refused(refusal) => Verdict::Refused(refusal),
     }
 }
 
 // Days from 2000-01-01, or 0 where the date is refused.
 fn days_in(date: DayCount) -> i64
-    ensures { λ r. ⌜ r ≡ answer-of date .days ⌝ }
+    ensures { λ r. ⌜ r ≡ count-answer date .days ⌝ }
 {
     match date {
-        DayCount::Days(d) => d,
+        DayCount::Days(days) => days,
         DayCount::Refused(_) => 0,
     }
 }
@@ -88,40 +78,46 @@ fn is_clock(start: Start) -> bool
     is_between(0, start.fraction, SECOND as i64 - 1)
 }
 
-// The first of 1 to 6 that applies, or 0.
-pub fn start_refusal(start: Start) -> u8
-    ensures { λ r. ⌜ r ≡ first (start-refusals start) ⌝ }
+// 4.
+fn clock_verdict(start: Start) -> Verdict
+    ensures { λ r. ⌜ verdict-number r ≡ first (clock-refusals start) ⌝ }
 {
-    let date = refusal_in(date_of(start));
-    if date != 0 {
-        return date;
-    }
-    if !is_clock(start) {
-        return 4;
-    }
-    if !is_between(-UT1, start.ut1, UT1) {
-        return 5;
-    }
-    if !is_between(-DELTA, start.delta, DELTA) {
-        return 6;
-    }
-    0
+    unless(Refusal::Clock, is_clock(start))
 }
 
-// The first of 7 to 9 that applies, or 0.
-pub fn point_refusal(point: Point) -> u8
-    ensures { λ r. ⌜ r ≡ first (point-refusals point) ⌝ }
+// 5 and 6.
+pub fn scale_verdict(ut1: i64, delta: i64) -> Verdict
+    ensures { λ r. ⌜ verdict-number r ≡ first (scale-refusals ut1 delta) ⌝ }
 {
-    if !is_between(-1_800_000_000, point.longitude, 1_800_000_000) {
-        return 7;
-    }
-    if !is_between(-900_000_000, point.latitude, 900_000_000) {
-        return 8;
-    }
-    if !is_between(-500, point.height, 9_000) {
-        return 9;
-    }
-    0
+    let by_ut1 = unless(Refusal::Ut1, is_between(-UT1, ut1, UT1));
+    let by_delta = unless(Refusal::DeltaT, is_between(-DELTA, delta, DELTA));
+    or_else(by_ut1, by_delta)
+}
+
+// The first of 1 to 6 that applies.
+pub fn start_verdict(start: Start) -> Verdict
+    ensures { λ r. ⌜ verdict-number r ≡ first (start-refusals start) ⌝ }
+{
+    let by_date = date_verdict(date_of(start));
+    let by_clock = clock_verdict(start);
+    let by_scale = scale_verdict(start.ut1, start.delta);
+    or_else(by_date, or_else(by_clock, by_scale))
+}
+
+// The first of 7 to 9 that applies.
+pub fn point_verdict(point: Point) -> Verdict
+    ensures { λ r. ⌜ verdict-number r ≡ first (point-refusals point) ⌝ }
+{
+    let by_longitude = unless(
+        Refusal::Longitude,
+        is_between(-1_800_000_000, point.longitude, 1_800_000_000),
+    );
+    let by_latitude = unless(
+        Refusal::Latitude,
+        is_between(-900_000_000, point.latitude, 900_000_000),
+    );
+    let by_height = unless(Refusal::Height, is_between(-500, point.height, 9_000));
+    or_else(by_longitude, or_else(by_latitude, by_height))
 }
 
 // Units of the day that have passed.
@@ -151,4 +147,14 @@ pub fn instant_of(start: Start) -> Instant
         start.ut1,
         start.delta,
     )
+}
+
+// So many units from an instant, before it where they are below zero.
+pub fn moved(start: Instant, units: i64) -> Instant
+    requires { ⌜ Reachable (moved start units) ⌝ }
+    ensures { λ r. ⌜ r ≡ moved start units ⌝ }
+{
+    let ut = start.ut + units;
+    let tt = start.tt + units;
+    Instant { ut, tt }
 }

@@ -7,7 +7,8 @@ ghost use Prim.Native.Nat.{_≤_};
 ghost use lib.IntN.{natAbs};
 ghost use Rattle.number_rules.specs.Angle.{full-turn};
 ghost use Rattle.number_rules.specs.SineTable.{sines};
-ghost use Rattle.sky.specs.Shown.{InTurns, degrees, shown};
+ghost use Rattle.sky_vectors.specs.Place.{InTurns};
+ghost use Rattle.sky.specs.Shown.{degrees, shown};
 
 // The elevation has the refraction in it.
 pub struct Shown {

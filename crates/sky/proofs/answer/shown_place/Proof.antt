@@ -1,73 +1,92 @@
--- `answer::shown_place` meets its contract.
+-- `sky::answer::shown_place` meets its contract.
 use mathlib.Core.Path.{_∙_, _≡_, ap, subst⁻¹, sym}
-use borrow.Author.Needs.{needs}
-use borrow.Author.Tests.{eq-eqb, ne-eqb}
+use Rattle.numbers.specs.Refusal.{first, number}
+use Rattle.numbers.proofs.RefusalLaws.{never-none}
 use Rattle.sky_vectors.proofs.PlaceLaws.{place-at-in-turns}
-use Rattle.sky.proofs.RequestLaws.{on-earth, point-passes, start-passes, start-reachable}
-use Rattle.sky.specs.Air.{air-refusals}
-use Rattle.sky.specs.Answer.{request-refusals, shown-place}
-use Rattle.sky_vectors.specs.Place.{place-at}
-use Rattle.sky.specs.Refusal.{first}
-use Rattle.sky.specs.Request.{instant, point-refusals, start-refusals}
-use Rattle.sky.specs.Shown.{InTurns, shown}
-use Rattle.sky_vectors.specs.SkyRange.{Reachable}
-use Rattle.sum_rules.specs.Instant.{value}
+use Rattle.sky_vectors.specs.Place.{InTurns, place-at}
+use Rattle.sky_vectors.specs.declared.place.Place.{Place}
+use Rattle.sky.specs.Answer.{Answer, nowhere, place, place-answer, request-refusals, shown-place}
+use Rattle.sky.specs.Request.{instant}
+use Rattle.sky.specs.Shown.{nothing-shown, shown}
+use Rattle.sky.proofs.AnswerLaws.{judged-refusal, judged-value, judged-zeros, not-refused, one-shown}
+use Rattle.sky.proofs.Demand3.{every-place-near}
+use borrow.Author.Needs.{needs}
 use Rattle.sky.proofs.answer.shown_place.Statement.{statement}
 use Rattle.sky.proofs.answer.shown_place.Tie as tie
 
--- a request that no check refuses
-module _ (c : tie.Else1) where
+-- a place that is answered
+module _ (c : tie.After-place) where
   abbrev s : tie.Start
-  s = c .before .before
+  s = c .before .before .before .before .before
 
-  passes : first (request-refusals (s .args .start) (s .args .point) (s .args .air)) ≡ 0
-  passes = sym (c .before .request-refusal .ensures) ∙ c .if1 .left
+  abbrev found : Place
+  found = c .place .given .0 .0
 
-  start-good : first (start-refusals (s .args .start)) ≡ 0
-  start-good = start-passes (s .args .start) (s .args .point) (air-refusals (s .args .air)) passes
+  answered : (first (request-refusals (s .args .start) (s .args .point) (s .args .air)) ≡ 0) × (found ≡ place-at (s .args .body) (s .args .point) (instant (s .args .start)))
+  unfolding place
+  answered =
+      not-refused (first (request-refusals (s .args .start) (s .args .point) (s .args .air))) nowhere (place-at (s .args .body) (s .args .point) (instant (s .args .start)))
+      (sym (ap place-answer (c .place .given .1)) ∙ c .before .before .place-in .ensures .equal)
 
-  point-good : first (point-refusals (s .args .point)) ≡ 0
-  point-good = point-passes (s .args .start) (s .args .point) (air-refusals (s .args .air)) passes
+-- a place that is refused
+module _ (c : tie.After-refusal) where
+  abbrev s₂ : tie.Start
+  s₂ = c .before .before .before .before .before
 
-module _ (c : tie.After-place-at) where
-  abbrev e : tie.Else1
-  e = c .before .before .before .before
-
-  place-is : c .place-at .result ≡ place-at (s e .args .body) (s e .args .point) (instant (s e .args .start))
-  place-is = c .place-at .ensures ∙ ap (place-at (s e .args .body) (s e .args .point)) (c .before .instant-of .ensures)
-
-request-refusal-requires : tie.Need-request-refusal-requires
-request-refusal-requires c κs = search needs
-
-returns : tie.Need-returns
-unfolding shown-place
-returns c = simp (← c .before .request-refusal .ensures, ne-eqb _ _ (c .if1 .taken))
+  refused : first (request-refusals (s₂ .args .start) (s₂ .args .point) (s₂ .args .air)) ≡ number (c .refusal .given .0 .0)
+  unfolding place
+  refused =
+      sym (judged-refusal (first (request-refusals (s₂ .args .start) (s₂ .args .point) (s₂ .args .air))) nowhere (place-at (s₂ .args .body) (s₂ .args .point) (instant (s₂ .args .start))))
+      ∙ ap (λ (a : Answer Place). a .refusal) (sym (c .before .before .place-in .ensures .equal) ∙ ap place-answer (c .refusal .given .1))
 
 table-requires : tie.Need-table-requires
 table-requires c κs = search needs
 
-instant-of-requires : tie.Need-instant-of-requires
-instant-of-requires c κs = start-good (c .before .before)
+place-in-requires : tie.Need-place-in-requires
+place-in-requires c κs = search needs
 
-place-at-requires : tie.Need-place-at-requires
-place-at-requires c κs =
-    let e = c .before .before .before in (
-      c .before .before .table .ensures,
-      (on-earth (s e .args .point) (point-good e), subst⁻¹ Reachable (c .instant-of .ensures) (start-reachable (s e .args .start) (start-good e))),
-    )
+enum-known-place : tie.Need-enum-known-place
+enum-known-place c = search needs
 
 shown-at-requires : tie.Need-shown-at-requires
 shown-at-requires c κs =
-    let a = s (e (c .before)) .args in
-    (c .before .before .before .before .table .ensures, subst⁻¹ InTurns (place-is (c .before)) (place-at-in-turns (a .body) (a .point) (instant (a .start))))
+    let e = c .before .before in
+    let a = s e .args in
+    (e .before .before .before .before .table .ensures, subst⁻¹ InTurns (answered e .1) (place-at-in-turns (a .body) (a .point) (instant (a .start))))
+
+enum-known-refusal : tie.Need-enum-known-refusal
+enum-known-refusal c = search needs
+
+returns : tie.Need-returns
+unfolding shown-place
+returns c =
+    let e = c .before .before .before in
+    let a = s e .args in
+    let value = c .shown-at .ensures ∙ ap (shown (a .air)) (answered e .1) in (
+      one-shown ((λ i. record { refusal = 0; value = value i })
+      ∙ sym (judged-value (first (request-refusals (a .start) (a .point) (a .air))) nothing-shown (shown (a .air) (place-at (a .body) (a .point) (instant (a .start)))) (answered e .0))),
+      every-place-near (a .start) (a .body) (a .point) (a .air),
+    )
 
 returns-2 : tie.Need-returns-2
 unfolding shown-place
 returns-2 c =
-    let p = c .before .before in
-    let a = s (e p) .args in
-    rw (eq-eqb _ _ (passes (e p))) (λ i. record { refusal = 0; value = (c .shown-at .ensures ∙ ap (shown (a .air)) (place-is p)) i })
+    let e = c .before in
+    let a = s₂ e .args in (
+      one-shown ((λ i. record { refusal = sym (refused e) i; value = nothing-shown })
+      ∙ sym (judged-zeros (first (request-refusals (a .start) (a .point) (a .air))) nothing-shown (shown (a .air) (place-at (a .body) (a .point) (instant (a .start))))
+      (λ none. never-none (e .refusal .given .0 .0) (sym (refused e) ∙ none)))),
+      every-place-near (a .start) (a .body) (a .point) (a .air),
+    )
 
 pub shown-place-spec : {M : Type 1} → statement M
 shown-place-spec =
-    tie.close (tie.spec request-refusal-requires returns table-requires instant-of-requires place-at-requires shown-at-requires returns-2)
+    tie.close
+    (tie.spec
+    table-requires
+    place-in-requires
+    enum-known-place
+    shown-at-requires
+    enum-known-refusal
+    returns
+    returns-2)

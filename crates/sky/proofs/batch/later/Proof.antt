@@ -1,9 +1,13 @@
--- `batch::later` meets its contract.
+-- `sky::batch::later` meets its contract.
+use mathlib.Core.Path.{_∙_, _≡_, ap, subst⁻¹}
 use Prim.Native.Nat.{_^_, _≤_}
+use lib.IntN.{pos, ℤ}
 use borrow.Author.Needs.{needs}
 use mir.Syntax.{w64}
-use mir.Val.{SFits}
-use Rattle.numbers.proofs.Machine.{Mirror, _⊕_, any, bounded, fits, from-nat, kept}
+use mir.Val.{ofZ, toZ}
+use Rattle.numbers.proofs.Machine.{Mirror, from-nat}
+use Rattle.sky_vectors.specs.SkyRange.{Reachable}
+use Rattle.sky.specs.Request.{moved}
 use Rattle.sky.proofs.batch.later.Statement.{statement}
 use Rattle.sky.proofs.batch.later.Tie as tie
 
@@ -11,35 +15,17 @@ module _ (s : tie.Start) where
   offset-small : s .args .offset ≤ 2 ^ 32
   offset-small = search needs
 
-  ut-fits : SFits w64 (s .args .start .ut)
-  ut-fits = search needs
+  abbrev offset : Mirror
+  offset = from-nat offset-small tt
 
-  tt-fits : SFits w64 (s .args .start .tt)
-  tt-fits = search needs
+cast-moved : tie.Need-cast-moved
+cast-moved c = search needs
 
-  abbrev ut : Mirror
-  ut = bounded (any ut-fits ⊕ from-nat offset-small tt) (s .pre .ut-near)
-
-  abbrev tt₀ : Mirror
-  tt₀ = bounded (any tt-fits ⊕ from-nat offset-small tt) (s .pre .tt-near)
-
-cast-ut : tie.Need-cast-ut
-cast-ut c = search needs
-
-add-ut : tie.Need-add-ut
-add-ut c = fits (ut (c .before .before)) tt
-
-cast-tt : tie.Need-cast-tt
-cast-tt c = search needs
-
-add-tt : tie.Need-add-tt
-add-tt c = fits (tt₀ (c .before .before .before .before)) tt
+moved-requires : tie.Need-moved-requires
+moved-requires c κs = subst⁻¹ (λ (z : ℤ). Reachable (moved (c .args .start) z)) (offset c .same) (c .pre)
 
 returns : tie.Need-returns
-returns c =
-    let s = c .before .before .before .before in
-    λ i. record { ut = kept (ut s) tt .same i; tt = kept (tt₀ s) tt .same i }
+returns c = c .moved .ensures ∙ ap (moved (c .before .args .start)) (offset (c .before) .same)
 
 pub later-spec : {M : Type 1} → statement M
-later-spec =
-    tie.close (tie.spec cast-ut add-ut cast-tt add-tt returns)
+later-spec = tie.close (tie.spec cast-moved moved-requires returns)

@@ -1,6 +1,6 @@
 -- `batch::places_at` meets its contract.
 use mathlib.Core.Bool.{Bool, _&&_, true}
-use mathlib.Core.List.{List, [], _∷_}
+use mathlib.Core.List.{List, [], _++_, _∷_}
 use mathlib.Core.Path.{_∙_, _≡_, ap, refl, subst⁻¹, sym}
 use Prim.Native.Nat.{ℕ}
 use native.Mathlib.Omega.{arith}
@@ -11,16 +11,17 @@ use borrow.Author.Needs.{needs}
 use borrow.Author.Tests.{eq-eqb, ne-eqb}
 use mir.Facts.{and-yes}
 use Rattle.numbers.proofs.Machine.{passed}
-use Rattle.sky.proofs.BatchLaws.{all-in-time, late-most, sample-reachable, utc-small}
-use Rattle.sky.proofs.RequestLaws.{first-of, first-one, on-earth, point-passes, rest-passes, start-passes}
-use Rattle.sky.specs.Batch.{azimuth-at, batch, elevation-at, filled, first-late, room-refusals}
-use Rattle.sky.specs.Refusal.{_else_, _unless_, first}
+use Rattle.sky.proofs.BatchLaws.{all-in-time, late-most, one-batch, sample-reachable, utc-small}
+use Rattle.sky.proofs.Demand3.{every-sample-near}
+use Rattle.sky.proofs.RequestLaws.{on-earth, point-passes, rest-passes, start-passes}
+use Rattle.sky.specs.Batch.{AllReachable, azimuth-at, batch, elevation-at, filled, first-late, room-refusals}
+use Rattle.numbers.proofs.RefusalLaws as RefusalLaws
+use Rattle.numbers.proofs.RefusalLaws.{alone, first-one, joined, never-none}
+use Rattle.numbers.specs.Refusal.{_unless_, first, number, verdict-number}
 use Rattle.sky.specs.Request.{instant, point-refusals, start-refusals, utc}
-use Rattle.sky_vectors.specs.SkyRange.{AllReachable}
 use Rattle.sky_vectors.specs.declared.station.Point.{Point}
 use Rattle.sky.specs.declared.request.Start.{Start}
 use Rattle.sum_rules.specs.declared.instant.Instant.{Instant}
-use Rattle.sky.proofs.RequestLaws as RequestLaws
 use Rattle.sky.proofs.batch.places_at.Statement.{statement}
 use Rattle.sky.proofs.batch.places_at.Tie as tie
 
@@ -48,24 +49,27 @@ module _ (c : tie.After-or-else2) where
   abbrev s₁ : tie.Start
   s₁ = c .before .before .before .before .before .before
 
-  refusal-is : first (room-refusals (start s₁) (point s₁) (offsets s₁) (azimuths s₁) (elevations s₁)) ≡ c .or-else2 .result
-  refusal-is =
-      let one = first-one (12 unless room s₁) ∙ sym (c .before .before .room-refusal .ensures) in
-      let rest = sym (c .before .or-else .ensures) in
-      let by-start = sym (c .before .before .before .before .start-refusal .ensures) in
-      let by-point = sym (c .before .before .before .point-refusal .ensures) in
-      first-of (start s₁) (point s₁) (12 unless room s₁ ∷ [])
-      ∙ (λ i. by-start i else (by-point i else one i))
-      ∙ ap (λ (n : ℕ). c .before .before .before .before .start-refusal .result else n) rest
-      ∙ sym (c .or-else2 .ensures)
+  abbrev checks : List ℕ
+  checks = room-refusals (start s₁) (point s₁) (offsets s₁) (azimuths s₁) (elevations s₁)
+
+  verdict-is : verdict-number (c .or-else2 .result) ≡ first checks
+  verdict-is =
+      let by-room = c .before .before in
+      let by-point = by-room .before in
+      let by-start = by-point .before in
+      joined (start-refusals (start s₁)) (point-refusals (point s₁) ++ (12 unless room s₁ ∷ [])) (c .or-else2 .ensures) (by-start .start-verdict .ensures)
+      (joined (point-refusals (point s₁)) (12 unless room s₁ ∷ []) (c .before .or-else .ensures) (by-point .point-verdict .ensures) (alone (by-room .room-verdict .ensures)))
 
 -- a request that they let pass
-module _ (c : tie.Else1) where
-  abbrev s₂ : tie.Start
-  s₂ = s₁ (c .before)
+module _ (c : tie.After-enum-told) where
+  abbrev judged : tie.After-or-else2
+  judged = c .before .before
 
-  passes : first (room-refusals (start s₂) (point s₂) (offsets s₂) (azimuths s₂) (elevations s₂)) ≡ 0
-  passes = refusal-is (c .before) ∙ c .if1 .left
+  abbrev s₂ : tie.Start
+  s₂ = s₁ judged
+
+  passes : first (checks judged) ≡ 0
+  passes = sym (verdict-is judged) ∙ ap verdict-number (c .enum-told .given .1)
 
   start-good : first (start-refusals (start s₂)) ≡ 0
   start-good = start-passes (start s₂) (point s₂) (12 unless room s₂ ∷ []) passes
@@ -74,10 +78,10 @@ module _ (c : tie.Else1) where
   point-good = point-passes (start s₂) (point s₂) (12 unless room s₂ ∷ []) passes
 
   room-good : room s₂ ≡ true
-  room-good = RequestLaws.passes 11 (room s₂) (sym (first-one (12 unless room s₂)) ∙ rest-passes (start s₂) (point s₂) (12 unless room s₂ ∷ []) passes)
+  room-good = RefusalLaws.passes 11 (room s₂) (sym (first-one (12 unless room s₂)) ∙ rest-passes (start s₂) (point s₂) (12 unless room s₂ ∷ []) passes)
 
 module _ (c : tie.After-first-late) where
-  abbrev e : tie.Else1
+  abbrev e : tie.After-enum-told
   e = c .before .before
 
   late-is : c .first-late .result ≡ first-late (utc (start (s₂ e))) (offsets (s₂ e))
@@ -93,7 +97,7 @@ module _ (c : tie.After-instant-of) where
   s₃ = s₂ (e late-in)
 
   none-late : first-late (utc (start s₃)) (offsets s₃) ≡ length (offsets s₃)
-  none-late = omega (arith, late-most (utc (start s₃)) (offsets s₃), late-is late-in, c .before .before .before .if2 .left)
+  none-late = omega (arith, late-most (utc (start s₃)) (offsets s₃), late-is late-in, c .before .before .before .if1 .left)
 
   all-reachable : AllReachable (instant (start s₃)) (offsets s₃)
   all-reachable =
@@ -103,14 +107,14 @@ module _ (c : tie.After-instant-of) where
             sample-reachable (start s₃) (getD (offsets s₃) i 0) (start-good (e late-in)) (all-in-time (utc (start s₃)) (offsets s₃) none-late i h);
       }
 
-start-refusal-requires : tie.Need-start-refusal-requires
-start-refusal-requires c κs = search needs
+start-verdict-requires : tie.Need-start-verdict-requires
+start-verdict-requires c κs = search needs
 
-point-refusal-requires : tie.Need-point-refusal-requires
-point-refusal-requires c κs = search needs
+point-verdict-requires : tie.Need-point-verdict-requires
+point-verdict-requires c κs = search needs
 
-room-refusal-requires : tie.Need-room-refusal-requires
-room-refusal-requires c κs = search needs
+room-verdict-requires : tie.Need-room-verdict-requires
+room-verdict-requires c κs = search needs
 
 or-else-requires : tie.Need-or-else-requires
 or-else-requires c κs = search needs
@@ -118,11 +122,21 @@ or-else-requires c κs = search needs
 or-else-requires-2 : tie.Need-or-else-requires-2
 or-else-requires-2 c κs = search needs
 
+enum-known-verdict : tie.Need-enum-known-verdict
+enum-known-verdict c = search needs
+
 returns : tie.Need-returns
 unfolding batch
 returns c =
-    let no = ne-eqb _ _ (c .if1 .taken) in
-    (simp (refusal-is (c .before), no), (simp no, simp no))
+    let e = c .before .before .before in
+    let s = s₁ e in
+    let refusal = c .before .verdict .given .0 .0 in
+    let is : first (checks e) ≡ number refusal = sym (verdict-is e) ∙ ap verdict-number (c .before .verdict .given .1) in
+    let no = ne-eqb (number refusal) 0 (never-none refusal) in
+    (one-batch (simp (is, no)), (simp no, (simp no, every-sample-near (start s) (point s) (offsets s) (azimuths s) (elevations s))))
+
+enum-told : tie.Need-enum-told
+enum-told c = search needs
 
 utc-of-requires : tie.Need-utc-of-requires
 utc-of-requires c κs = start-good c
@@ -135,8 +149,9 @@ returns-2 : tie.Need-returns-2
 unfolding batch
 returns-2 c =
     let e = c .before .before .before in
-    let apart : first-late (utc (start (s₂ e))) (offsets (s₂ e)) ≡ length (offsets (s₂ e)) → ⊥ = λ same. omega (arith, c .if2 .taken, late-is (c .before), same) in
-    (simp (eq-eqb _ _ (passes e), ne-eqb _ _ apart, late-is (c .before)), (refl, refl))
+    let s = s₂ e in
+    let apart : first-late (utc (start s)) (offsets s) ≡ length (offsets s) → ⊥ = λ same. omega (arith, c .if1 .taken, late-is (c .before), same) in
+    (one-batch (simp (eq-eqb _ _ (passes e), ne-eqb _ _ apart, late-is (c .before))), (refl, (refl, every-sample-near (start s) (point s) (offsets s) (azimuths s) (elevations s))))
 
 table-requires : tie.Need-table-requires
 table-requires c κs = search needs
@@ -168,14 +183,17 @@ returns-3 c =
     let k = c .before .before .before .before .before in
     let a = s₃ k .args in
     let at = k .instant-of .ensures in (
-      simp (eq-eqb _ _ (passes (e (late-in k))), eq-eqb _ _ (none-late k)),
+      one-batch (simp (eq-eqb _ _ (passes (e (late-in k))), eq-eqb _ _ (none-late k))),
       (
         c .before .before .fill .ensures .0 ∙ ap (λ (i : Instant). filled (azimuth-at (a .body) (a .point) i) (a .offsets .now) (a .azimuths .now)) at,
-        c .before .before .fill .ensures .1 ∙ ap (λ (i : Instant). filled (elevation-at (a .body) (a .point) i) (a .offsets .now) (a .elevations .now)) at,
+        (
+          c .before .before .fill .ensures .1 ∙ ap (λ (i : Instant). filled (elevation-at (a .body) (a .point) i) (a .offsets .now) (a .elevations .now)) at,
+          every-sample-near (a .start) (a .point) (a .offsets .now) (azimuths (s₃ k)) (elevations (s₃ k)),
+        ),
       ),
     )
 
 pub places-at-spec : {M : Type 1} → statement M
 places-at-spec =
     tie.close
-    (tie.spec start-refusal-requires point-refusal-requires room-refusal-requires or-else-requires or-else-requires-2 returns utc-of-requires first-late-requires returns-2 table-requires instant-of-requires fill-requires same-length same-length-2 returns-3)
+    (tie.spec start-verdict-requires point-verdict-requires room-verdict-requires or-else-requires or-else-requires-2 enum-known-verdict returns enum-told utc-of-requires first-late-requires returns-2 table-requires instant-of-requires fill-requires same-length same-length-2 returns-3)

@@ -8,7 +8,7 @@ use borrow.Author.Needs.{needs}
 use Rattle.number_rules.specs.Angle.{full-turn, half-turn}
 use Rattle.numbers.proofs.Machine.{Mirror, any, to-nat}
 use Rattle.sky.specs.Heading.{clockwise, half-way, is-reduced, middle, middle-of}
-use Rattle.sky.proofs.HeadingLaws.{ahead, behind, below-turn, both-reduced, clockwise-below, first-refused, natural, no-test, opposite, second-refused, yes-test}
+use Rattle.sky.proofs.HeadingLaws.{ahead, behind, below-turn, both-reduced, clockwise-below, first-refused, natural, no-test, one-middle, opposite, second-refused, yes-test}
 use Rattle.sky.proofs.heading.middle_azimuth.Statement.{statement}
 use Rattle.sky.proofs.heading.middle_azimuth.Tie as tie
 
@@ -50,7 +50,8 @@ is-reduced-requires : tie.Need-is-reduced-requires
 is-reduced-requires c κs = search needs
 
 returns : tie.Need-returns
-returns c = sym (first-refused (c .before .before .args .a) (c .before .before .args .b) (no-test (c .before .is-reduced .ensures) (a-mirror (c .before .before) .same) (c .if1 .taken)))
+returns c =
+    one-middle (sym (first-refused (c .before .before .args .a) (c .before .before .args .b) (no-test (c .before .is-reduced .ensures) (a-mirror (c .before .before) .same) (c .if1 .taken))))
 
 is-reduced-requires-2 : tie.Need-is-reduced-requires-2
 is-reduced-requires-2 c κs = search needs
@@ -58,8 +59,8 @@ is-reduced-requires-2 c κs = search needs
 returns-2 : tie.Need-returns-2
 returns-2 c =
     let s = c .before .before .before .before in
-    sym (second-refused (s .args .a) (s .args .b) (yes-test (c .before .before .before .is-reduced .ensures) (a-mirror s .same) (c .before .before .if1 .left))
-    (no-test (c .before .is-reduced2 .ensures) (b-mirror s .same) (c .if2 .taken)))
+    one-middle (sym (second-refused (s .args .a) (s .args .b) (yes-test (c .before .before .before .is-reduced .ensures) (a-mirror s .same) (c .before .before .if1 .left))
+    (no-test (c .before .is-reduced2 .ensures) (b-mirror s .same) (c .if2 .taken))))
 
 cast-start : tie.Need-cast-start
 cast-start c = to-nat (a-mirror (s₂ c) .same ∙ natural (s₂ c .args .a) (a-reduced c)) (omega (arith, a-below c))
@@ -90,19 +91,19 @@ module _ (c : tie.After-clockwise) where
   by-arc = both-reduced (s₂ (c .before) .args .a) (s₂ (c .before) .args .b) (a-reduced (c .before)) (b-reduced (c .before))
 
 returns-3 : tie.Need-returns-3
-returns-3 c = sym (by-arc (c .before) ∙ opposite (x (c .before)) (y (c .before)) (sym (arc-is (c .before)) ∙ c .if3 .taken))
+returns-3 c = one-middle (sym (by-arc (c .before) ∙ opposite (x (c .before)) (y (c .before)) (sym (arc-is (c .before)) ∙ c .if3 .taken)))
 
 returns-4 : tie.Need-returns-4
 returns-4 c =
     let k = c .before .before .before in
-    (λ i. record { refusal = 0; azimuth = (c .half-way .ensures ∙ ap₂ half-way (ap natAbs (a-mirror (s₂ (k .before)) .same)) (arc-is k)) i })
-    ∙ sym (by-arc k ∙ ahead (x k) (y k) (subst (λ (n : ℕ). n < half-turn) (arc-is k) (c .before .if4 .taken)))
+    one-middle ((λ i. record { refusal = 0; azimuth = (c .half-way .ensures ∙ ap₂ half-way (ap natAbs (a-mirror (s₂ (k .before)) .same)) (arc-is k)) i })
+    ∙ sym (by-arc k ∙ ahead (x k) (y k) (subst (λ (n : ℕ). n < half-turn) (arc-is k) (c .before .if4 .taken))))
 
 returns-5 : tie.Need-returns-5
 returns-5 c =
     let k = c .before .before .before in
-    (λ i. record { refusal = 0; azimuth = (c .half-way2 .ensures ∙ ap₂ (λ (b arc : ℕ). half-way b (full-turn - arc)) (ap natAbs (b-mirror (s₂ (k .before)) .same)) (arc-is k)) i })
-    ∙ sym (by-arc k ∙ behind (x k) (y k) (subst (λ (n : ℕ). half-turn < n) (arc-is k) (above (k .clockwise .result) (c .before .if4 .left) (c .before .before .if3 .left))))
+    one-middle ((λ i. record { refusal = 0; azimuth = (c .half-way2 .ensures ∙ ap₂ (λ (b arc : ℕ). half-way b (full-turn - arc)) (ap natAbs (b-mirror (s₂ (k .before)) .same)) (arc-is k)) i })
+    ∙ sym (by-arc k ∙ behind (x k) (y k) (subst (λ (n : ℕ). half-turn < n) (arc-is k) (above (k .clockwise .result) (c .before .if4 .left) (c .before .before .if3 .left)))))
   where
     above : (n : ℕ) → half-turn ≤ n → (n ≡ half-turn → ⊥) → half-turn < n
     above n h f = omega arith

@@ -1,10 +1,12 @@
 -- `request::date_of` meets its contract.
-use mathlib.Core.Path.{_∙_}
+use mathlib.Core.Path.{subst}
 use borrow.Author.Needs.{needs}
 use mir.Syntax.{w64}
 use mir.Val.{SFits}
 use Rattle.numbers.proofs.Machine.{any}
-use Rattle.number_rules.specs.Calendar.{day-count}
+use Rattle.number_rules.specs.Calendar.{DayAnswer, day-count}
+use Rattle.numbers.specs.DayCount.{count-answer}
+use Rattle.numbers.specs.Refusal.{OneAnswer}
 use Rattle.sky.specs.declared.request.Start.{Start}
 use Rattle.sky.proofs.request.date_of.Statement.{statement}
 use Rattle.sky.proofs.request.date_of.Tie as tie
@@ -24,7 +26,8 @@ day-fits s = search needs
 returns : tie.Need-returns
 returns c =
     let s = c .before .before .before .before in
-    c .day-count .ensures ∙ (λ i. day-count (any (year-fits s) .same i) (any (month-fits s) .same i) (any (day-fits s) .same i))
+    subst (λ (rule : DayAnswer). OneAnswer count-answer rule (c .day-count .result))
+    (λ i. day-count (any (year-fits s) .same i) (any (month-fits s) .same i) (any (day-fits s) .same i)) (c .day-count .ensures)
 
 pub date-of-spec : {M : Type 1} → statement M
 date-of-spec =

@@ -26,7 +26,7 @@ module _ (c : tie.After-elapsed-of) where
   s = c .before .before .before
 
   days-is : toZ w64 (ofZ w64 (c .before .days-in .result)) ≡ date (s .args .start) .days
-  days-is = passed (c .before .days-in .ok) (c .before .days-in .ensures ∙ ap (λ (a : DayAnswer). a .days) (c .before .before .date-of .ensures))
+  days-is = passed (c .before .days-in .ok) (c .before .days-in .ensures ∙ ap (λ (a : DayAnswer). a .days) (c .before .before .date-of .ensures .equal))
 
   elapsed-is : toZ w64 (ofZ w64 (c .elapsed-of .result)) ≡ elapsed (s .args .start)
   elapsed-is = passed (c .elapsed-of .ok) (c .elapsed-of .ensures)

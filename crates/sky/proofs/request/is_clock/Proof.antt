@@ -7,7 +7,7 @@ use borrow.Author.Tests.{not-false, not-true}
 use mir.Syntax.{w64}
 use mir.Val.{SFits}
 use Rattle.sky.proofs.RequestLaws.{tested}
-use Rattle.sky.specs.Refusal.{between}
+use Rattle.numbers.specs.Whole.{between}
 use Rattle.sky.specs.Request.{is-clock}
 use Rattle.sky.specs.declared.request.Start.{Start}
 use Rattle.sum_rules.specs.Instant as Instant

@@ -22,7 +22,7 @@ module _ (c : tie.After-days-in) where
   abbrev days : Mirror
   days =
       lit (pos day)
-      ⊗ gave (c .days-in .ok) (c .days-in .ensures ∙ ap (λ (a : DayAnswer). a .days) (c .before .date-of .ensures)) (days-small (accepted start (s .pre)))
+      ⊗ gave (c .days-in .ok) (c .days-in .ensures ∙ ap (λ (a : DayAnswer). a .days) (c .before .date-of .ensures .equal)) (days-small (accepted start (s .pre)))
 
 module _ (c : tie.After-elapsed-of) where
   abbrev units : Mirror

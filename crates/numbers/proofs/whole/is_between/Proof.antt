@@ -1,8 +1,8 @@
--- `request::is_between` meets its contract.
+-- `numbers::whole::is_between` meets its contract.
 use Rattle.numbers.proofs.Machine.{Mirror, any, is-le, less, not-le, not-less}
-use Rattle.sky.specs.Refusal.{between}
-use Rattle.sky.proofs.request.is_between.Statement.{statement}
-use Rattle.sky.proofs.request.is_between.Tie as tie
+use Rattle.numbers.specs.Whole.{between}
+use Rattle.numbers.proofs.whole.is_between.Statement.{statement}
+use Rattle.numbers.proofs.whole.is_between.Tie as tie
 
 module _ (s : tie.Start) where
   abbrev lo : Mirror
