@@ -1,2 +1,0 @@
-pub mod MiddleSize
-pub mod Within

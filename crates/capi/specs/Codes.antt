@@ -2,15 +2,16 @@
 use mathlib.Core.Bool.{cond}
 use Prim.Native.Nat.{ℕ}
 use lib.Dec.{eqb, leb}
+use lib.Ieee.{Float}
 use lib.IntN.{pos, ℤ}
 use Rattle.number_rules.specs.Angle.{quarter-turn}
 use Rattle.sum_rules.specs.Instant.{minus}
-use Rattle.sky.specs.Refusal.{_else_, _unless_, between}
+use Rattle.numbers.specs.Refusal.{_else_, _unless_}
+use Rattle.numbers.specs.Whole.{between}
 use Rattle.sky.specs.declared.air.Air.{Air}
 use Rattle.sky.specs.declared.air.Air.the-variants.{Measured, None, Standard}
 use Rattle.sky_vectors.specs.declared.geocentric.Body.{Body}
 use Rattle.sky_vectors.specs.declared.geocentric.Body.the-variants.{Moon, Sun}
-use Rattle.capi.specs.declared.codes.GivenAir.{GivenAir}
 
 abbrev pub unknown-body : ℕ
 unknown-body = 101
@@ -20,6 +21,9 @@ unknown-air = 102
 
 abbrev pub no-elevation : ℕ
 no-elevation = 103
+
+abbrev pub out-of-reach : ℕ
+out-of-reach = 104
 
 -- the codes of a body
 abbrev pub sun : ℕ
@@ -44,15 +48,15 @@ standard = 1
 abbrev pub measured : ℕ
 measured = 2
 
-abbrev pub air-of : GivenAir → Air
-air-of air = cond (eqb (air .kind) none) None (cond (eqb (air .kind) standard) Standard (Measured (air .pressure) (air .temperature)))
+abbrev pub air-of : ℕ → Float → Float → Air
+air-of kind pressure temperature = cond (eqb kind none) None (cond (eqb kind standard) Standard (Measured pressure temperature))
 
-abbrev pub kind-refusal : GivenAir → ℕ
-kind-refusal air = unknown-air unless leb (air .kind) measured
+abbrev pub kind-refusal : ℕ → ℕ
+kind-refusal kind = unknown-air unless leb kind measured
 
 -- the body is judged first
-abbrev pub code-refusal : ℕ → GivenAir → ℕ
-code-refusal body air = body-refusal body else kind-refusal air
+abbrev pub code-refusal : ℕ → ℕ → ℕ
+code-refusal body kind = body-refusal body else kind-refusal kind
 
 -- within ±90 degrees
 abbrev pub elevation-refusal : ℤ → ℕ

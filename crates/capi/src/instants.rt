@@ -1,5 +1,12 @@
-// The sums at one instant, for C and Rust: any instant may be asked for, and one out of reach is answered by zeros.
+// UT and TT of a start, and the sums at one instant: any instant may be asked for, and one out of reach is refused.
+use super::codes::OUT_OF_REACH;
+use super::codes::number_in;
+use super::given::start_of;
+use super::lent::put_pair;
+use super::lent::put_triple;
 use numbers::sine_table::table;
+use sky::request::instant_of;
+use sky::request::start_verdict;
 use sums::instant::is_within_reach;
 use sums::instant::powers_at;
 use sums::moon::moon;
@@ -8,119 +15,94 @@ use sums::nutation::obliquity_at;
 use sums::sidereal::mean_at;
 use sums::sun::sun;
 ghost use mathlib.Core.Path.{_≡_};
-ghost use Rattle.capi.specs.Export.{moon-sums, sun-sums, nutation-sums, mean-sidereal};
+ghost use lib.IntN.{pos};
+ghost use Rattle.sum_rules.specs.Sidereal.{mean};
+ghost use Rattle.capi.specs.Answers.{started, instant-values, written, written-one};
+ghost use Rattle.capi.specs.Instants.{reach-refusal, moon-values, sun-values, nutation-values, at-instant};
+
+// UT, then TT.
+#[no_mangle]
+pub extern "C" fn raddlehue_instant(start: &[i64; 9], instant: &mut [i64; 2]) -> u32
+    ensures { λ r. ⌜ r ≡ started (now (start .entry)) .refusal ⌝ }
+    ensures { λ _. ⌜ now (instant .exit) ≡ written instant-values (started (now (start .entry))) (now (instant .entry)) ⌝ }
+{
+    let given = start_of(start);
+    let refusal = number_in(start_verdict(given));
+    if refusal != 0 {
+        return refusal;
+    }
+    let found = instant_of(given);
+    put_pair(instant, found.ut, found.tt);
+    0
+}
+
+fn reach_refusal(instant: i64) -> u32
+    ensures { λ r. ⌜ r ≡ reach-refusal instant ⌝ }
+{
+    if is_within_reach(instant) {
+        0
+    } else {
+        OUT_OF_REACH
+    }
+}
 
 // Before nutation: longitude and latitude in 10⁻⁸ degree, and metres from the Earth's centre.
-#[repr(C)]
-pub struct MoonSums {
-    pub within: u8,
-    pub longitude: u64,
-    pub latitude: i64,
-    pub metres: i64,
+#[no_mangle]
+pub extern "C" fn raddlehue_moon_sums(tt: i64, sums: &mut [i64; 3]) -> u32
+    ensures { λ r. ⌜ r ≡ reach-refusal tt ⌝ }
+    ensures { λ _. ⌜ now (sums .exit) ≡ at-instant tt (moon-values tt) (now (sums .entry)) ⌝ }
+{
+    let refusal = reach_refusal(tt);
+    if refusal != 0 {
+        return refusal;
+    }
+    let place = moon(tt);
+    put_triple(sums, place.longitude as i64, place.latitude, place.metres);
+    0
 }
 
 // The Earth's L, B and R, in 10⁻¹⁰ radian or AU, before any turn is taken off.
-#[repr(C)]
-pub struct SolarSums {
-    pub within: u8,
-    pub longitude: i64,
-    pub latitude: i64,
-    pub radius: i64,
+#[no_mangle]
+pub extern "C" fn raddlehue_sun_sums(tt: i64, sums: &mut [i64; 3]) -> u32
+    ensures { λ r. ⌜ r ≡ reach-refusal tt ⌝ }
+    ensures { λ _. ⌜ now (sums .exit) ≡ at-instant tt (sun-values tt) (now (sums .entry)) ⌝ }
+{
+    let refusal = reach_refusal(tt);
+    if refusal != 0 {
+        return refusal;
+    }
+    let place = sun(tt);
+    put_triple(sums, place.longitude, place.latitude, place.radius);
+    0
 }
 
 // Δψ, Δε and the true obliquity, in 10⁻⁸ degree.
-#[repr(C)]
-pub struct NutationSums {
-    pub within: u8,
-    pub longitude: i64,
-    pub obliquity: i64,
-    pub true_obliquity: i64,
+#[no_mangle]
+pub extern "C" fn raddlehue_nutation(tt: i64, nutation: &mut [i64; 3]) -> u32
+    ensures { λ r. ⌜ r ≡ reach-refusal tt ⌝ }
+    ensures { λ _. ⌜ now (nutation .exit) ≡ at-instant tt (nutation-values tt) (now (nutation .entry)) ⌝ }
+{
+    let refusal = reach_refusal(tt);
+    if refusal != 0 {
+        return refusal;
+    }
+    let powers = powers_at(tt);
+    let found = nutation_at(&table(), powers);
+    let obliquity = obliquity_at(powers, found.obliquity);
+    put_triple(nutation, found.longitude, found.obliquity, obliquity);
+    0
 }
 
 // In 10⁻⁸ degree.
-#[repr(C)]
-pub struct SiderealTime {
-    pub within: u8,
-    pub mean: u64,
-}
-
 #[no_mangle]
-pub extern "C" fn raddlehue_moon_sums(tt: i64) -> MoonSums
-    ensures { λ r. ⌜ r ≡ moon-sums tt ⌝ }
+pub extern "C" fn raddlehue_mean_sidereal(ut: i64, sidereal: &mut i64) -> u32
+    ensures { λ r. ⌜ r ≡ reach-refusal ut ⌝ }
+    ensures { λ _. ⌜ now (sidereal .exit) ≡ written-one (reach-refusal ut) (pos (mean ut)) (now (sidereal .entry)) ⌝ }
 {
-    if is_within_reach(tt) {
-        let place = moon(tt);
-        MoonSums {
-            within: 1,
-            longitude: place.longitude,
-            latitude: place.latitude,
-            metres: place.metres,
-        }
-    } else {
-        MoonSums {
-            within: 0,
-            longitude: 0,
-            latitude: 0,
-            metres: 0,
-        }
+    let refusal = reach_refusal(ut);
+    if refusal != 0 {
+        return refusal;
     }
-}
-
-#[no_mangle]
-pub extern "C" fn raddlehue_sun_sums(tt: i64) -> SolarSums
-    ensures { λ r. ⌜ r ≡ sun-sums tt ⌝ }
-{
-    if is_within_reach(tt) {
-        let place = sun(tt);
-        SolarSums {
-            within: 1,
-            longitude: place.longitude,
-            latitude: place.latitude,
-            radius: place.radius,
-        }
-    } else {
-        SolarSums {
-            within: 0,
-            longitude: 0,
-            latitude: 0,
-            radius: 0,
-        }
-    }
-}
-
-#[no_mangle]
-pub extern "C" fn raddlehue_nutation(tt: i64) -> NutationSums
-    ensures { λ r. ⌜ r ≡ nutation-sums tt ⌝ }
-{
-    if is_within_reach(tt) {
-        let t = powers_at(tt);
-        let nutation = nutation_at(&table(), t);
-        NutationSums {
-            within: 1,
-            longitude: nutation.longitude,
-            obliquity: nutation.obliquity,
-            true_obliquity: obliquity_at(t, nutation.obliquity),
-        }
-    } else {
-        NutationSums {
-            within: 0,
-            longitude: 0,
-            obliquity: 0,
-            true_obliquity: 0,
-        }
-    }
-}
-
-#[no_mangle]
-pub extern "C" fn raddlehue_mean_sidereal(ut: i64) -> SiderealTime
-    ensures { λ r. ⌜ r ≡ mean-sidereal ut ⌝ }
-{
-    if is_within_reach(ut) {
-        SiderealTime {
-            within: 1,
-            mean: mean_at(powers_at(ut)),
-        }
-    } else {
-        SiderealTime { within: 0, mean: 0 }
-    }
+    *sidereal = mean_at(powers_at(ut)) as i64;
+    0
 }

@@ -7,6 +7,7 @@ use Rattle.number_rules.specs.Calendar.{DayAnswer, day-count}
 use Rattle.numbers.specs.Refusal.{_unless_}
 use Rattle.numbers.specs.Whole.{between}
 use Rattle.sum_rules.specs.Instant.{day, minus, second, terrestrial-time, universal-time}
+use Rattle.sum_rules.specs.Table.{column}
 use Rattle.sum_rules.specs.declared.instant.Instant.{Instant}
 use Rattle.sky_vectors.specs.declared.station.Point.{Point}
 use Rattle.sky.specs.declared.request.Start.{Start}
@@ -72,3 +73,18 @@ instant s =
 -- an instant so many units from another, before it where they are below zero
 abbrev pub moved : Instant → ℤ → Instant
 moved start units = record { ut = start .ut +ℤ units; tt = start .tt +ℤ units }
+
+-- a start from its nine numbers: year month day hour minute second tenth, UT1 minus UTC, delta-T
+unfoldable pub start-from : List ℤ → Start
+start-from numbers =
+    record {
+      year = column numbers 0;
+      month = column numbers 1;
+      day = column numbers 2;
+      hour = column numbers 3;
+      minute = column numbers 4;
+      second = column numbers 5;
+      fraction = column numbers 6;
+      ut1 = column numbers 7;
+      delta = column numbers 8;
+    }

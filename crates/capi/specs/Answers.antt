@@ -1,0 +1,66 @@
+-- The exports over a request: 01's answers, as C is handed them. A refused call gives its number and writes nothing.
+use mathlib.Core.Bool.{cond}
+use mathlib.Core.List.{List, [], _∷_}
+use Prim.Native.Nat.{ℕ}
+use lib.Dec.{eqb}
+use lib.Ieee.{Float}
+use lib.IntN.{pos, ℤ}
+use Rattle.numbers.specs.Refusal.{first}
+use Rattle.sum_rules.specs.declared.instant.Instant.{Instant}
+use Rattle.sky.specs.Air.{air-refusals}
+use Rattle.sky.specs.Answer.{Answer, judged, nowhere, place, shown-place}
+use Rattle.sky.specs.Batch.{BatchAnswer, batch}
+use Rattle.sky.specs.Request.{instant, start-from, start-refusals}
+use Rattle.sky.specs.Shown.{nothing-shown}
+use Rattle.sky.specs.declared.shown.Shown.{Shown}
+use Rattle.sky_vectors.specs.declared.place.Place.{Place}
+use Rattle.capi.specs.Codes.{air-of, body-of, body-refusal, code-refusal, elevation-refusal, kind-refusal}
+use Rattle.capi.specs.Given.{point-from}
+
+-- what stands behind a reference after the call: the value, or what stood there where refused
+abbrev pub written-one : {A : Type 0} → ℕ → A → A → A
+written-one refusal value before = cond (eqb refusal 0) value before
+
+-- the same of an array, by the numbers of the answer's value
+abbrev pub written : {A B : Type 0} → (A → List B) → Answer A → List B → List B
+written values answer before = written-one (answer .refusal) (values (answer .value)) before
+
+-- the refusal of a code, with zeros, or the answer to the request
+abbrev pub formed : {A : Type 0} → ℕ → A → Answer A → Answer A
+formed refusal zeros answer = cond (eqb refusal 0) answer (record { refusal = refusal; value = zeros })
+
+abbrev pub coded-place : List ℤ → ℕ → List ℤ → ℕ → Float → Float → Answer Place
+coded-place start body point air pressure temperature =
+    formed (code-refusal body air) nowhere (place (start-from start) (body-of body) (point-from point) (air-of air pressure temperature))
+
+abbrev pub place-values : Place → List ℤ
+place-values p = p .azimuth ∷ p .elevation ∷ []
+
+abbrev pub coded-shown-place : List ℤ → ℕ → List ℤ → ℕ → Float → Float → Answer Shown
+coded-shown-place start body point air pressure temperature =
+    formed (code-refusal body air) nothing-shown (shown-place (start-from start) (body-of body) (point-from point) (air-of air pressure temperature))
+
+abbrev pub shown-values : Shown → List Float
+shown-values p = p .azimuth ∷ p .elevation ∷ p .refraction ∷ []
+
+abbrev pub coded-batch : List ℤ → ℕ → List ℤ → List ℕ → ℕ → ℕ → BatchAnswer
+coded-batch start body point offsets m n =
+    let refusal = body-refusal body in
+    cond (eqb refusal 0) (batch (start-from start) (point-from point) offsets m n) (record { refusal = refusal; index = 0; count = 0 })
+
+-- index and count of a batch that is accepted or late; any other refusal writes nothing
+abbrev pub told-of-batch : BatchAnswer → List ℕ → List ℕ
+told-of-batch answer before = cond (eqb (answer .refusal) 0) (0 ∷ answer .count ∷ []) (cond (eqb (answer .refusal) 13) (answer .index ∷ 0 ∷ []) before)
+
+-- an unknown air, an elevation beyond ±90 degrees, then 10 and 11
+abbrev pub refraction-refusal : ℤ → ℕ → Float → Float → ℕ
+refraction-refusal e air pressure temperature = first (kind-refusal air ∷ elevation-refusal e ∷ air-refusals (air-of air pressure temperature))
+
+-- UT and TT of a start
+abbrev pub started : List ℤ → Answer Instant
+started numbers =
+    let start = start-from numbers in
+    judged (first (start-refusals start)) (record { ut = pos 0; tt = pos 0 }) (instant start)
+
+abbrev pub instant-values : Instant → List ℤ
+instant-values i = i .ut ∷ i .tt ∷ []

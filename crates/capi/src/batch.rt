@@ -1,0 +1,51 @@
+// A batch of places into two buffers that the caller lends.
+use super::codes::body_of;
+use super::codes::body_refusal;
+use super::given::point_of;
+use super::given::start_of;
+use super::lent::put_counts;
+use numbers::refusal::number_of;
+use sky::batch::Batch;
+use sky::batch::places_at;
+ghost use mathlib.Core.Path.{_≡_};
+ghost use lib.ListN.{length};
+ghost use Rattle.sky.specs.Batch.{azimuth-at, elevation-at, left-in};
+ghost use Rattle.sky.specs.Request.{instant, start-from};
+ghost use Rattle.capi.specs.Codes.{body-of};
+ghost use Rattle.capi.specs.Given.{point-from};
+ghost use Rattle.capi.specs.Answers.{coded-batch, told-of-batch};
+
+// The index of the first bad offset (13) and the count are told; any other refusal writes nothing.
+#[no_mangle]
+pub extern "C" fn raddlehue_batch(
+    start: &[i64; 9],
+    body: u32,
+    point: &[i64; 3],
+    offsets: &[u32],
+    azimuths: &mut [i64],
+    elevations: &mut [i64],
+    told: &mut [u64; 2],
+) -> u32
+    ensures { λ r. ⌜ r ≡ coded-batch (now (start .entry)) body (now (point .entry)) (now (offsets .entry)) (length (now (azimuths .entry))) (length (now (elevations .entry))) .refusal ⌝ }
+    ensures { λ _. ⌜ now (told .exit) ≡ told-of-batch (coded-batch (now (start .entry)) body (now (point .entry)) (now (offsets .entry)) (length (now (azimuths .entry))) (length (now (elevations .entry)))) (now (told .entry)) ⌝ }
+    ensures { λ _. ⌜ now (azimuths .exit) ≡ left-in (coded-batch (now (start .entry)) body (now (point .entry)) (now (offsets .entry)) (length (now (azimuths .entry))) (length (now (elevations .entry)))) (azimuth-at (body-of body) (point-from (now (point .entry))) (instant (start-from (now (start .entry))))) (now (offsets .entry)) (now (azimuths .entry)) ⌝ }
+    ensures { λ _. ⌜ now (elevations .exit) ≡ left-in (coded-batch (now (start .entry)) body (now (point .entry)) (now (offsets .entry)) (length (now (azimuths .entry))) (length (now (elevations .entry)))) (elevation-at (body-of body) (point-from (now (point .entry))) (instant (start-from (now (start .entry))))) (now (offsets .entry)) (now (elevations .entry)) ⌝ }
+{
+    let refusal = body_refusal(body);
+    if refusal != 0 {
+        return refusal;
+    }
+    let given = start_of(start);
+    let place = point_of(point);
+    match places_at(given, body_of(body), place, offsets, azimuths, elevations) {
+        Batch::Done(count) => {
+            put_counts(told, 0, count as u64);
+            0
+        }
+        Batch::Late(index) => {
+            put_counts(told, index as u64, 0);
+            13
+        }
+        Batch::Refused(refused) => number_of(refused),
+    }
+}

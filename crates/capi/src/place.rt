@@ -1,0 +1,70 @@
+// The place of a body, and the place as it is shown.
+use super::codes::air_of;
+use super::codes::body_of;
+use super::codes::code_refusal;
+use super::given::point_of;
+use super::given::start_of;
+use super::lent::put_doubles;
+use super::lent::put_pair;
+use numbers::refusal::number_of;
+use sky::answer::PlaceAnswer;
+use sky::answer::ShownAnswer;
+use sky::answer::shown_place;
+ghost use mathlib.Core.Path.{_≡_};
+ghost use Rattle.capi.specs.Answers.{coded-place, coded-shown-place, place-values, shown-values, written};
+
+// Azimuth from north over east and elevation without refraction, in 10⁻⁸ degree. The air is only judged.
+#[no_mangle]
+pub extern "C" fn raddlehue_place(
+    start: &[i64; 9],
+    body: u32,
+    point: &[i64; 3],
+    air: u32,
+    pressure: f64,
+    temperature: f64,
+    place: &mut [i64; 2],
+) -> u32
+    ensures { λ r. ⌜ r ≡ coded-place (now (start .entry)) body (now (point .entry)) air pressure temperature .refusal ⌝ }
+    ensures { λ _. ⌜ now (place .exit) ≡ written place-values (coded-place (now (start .entry)) body (now (point .entry)) air pressure temperature) (now (place .entry)) ⌝ }
+{
+    let refusal = code_refusal(body, air);
+    if refusal != 0 {
+        return refusal;
+    }
+    let asked = air_of(air, pressure, temperature);
+    match sky::answer::place(start_of(start), body_of(body), point_of(point), asked) {
+        PlaceAnswer::Seen(seen) => {
+            put_pair(place, seen.azimuth, seen.elevation);
+            0
+        }
+        PlaceAnswer::Refused(refused) => number_of(refused),
+    }
+}
+
+// Azimuth from north over east, elevation with the refraction in it, and the refraction, in degrees.
+#[no_mangle]
+pub extern "C" fn raddlehue_shown_place(
+    start: &[i64; 9],
+    body: u32,
+    point: &[i64; 3],
+    air: u32,
+    pressure: f64,
+    temperature: f64,
+    shown: &mut [f64; 3],
+) -> u32
+    ensures { λ r. ⌜ r ≡ coded-shown-place (now (start .entry)) body (now (point .entry)) air pressure temperature .refusal ⌝ }
+    ensures { λ _. ⌜ now (shown .exit) ≡ written shown-values (coded-shown-place (now (start .entry)) body (now (point .entry)) air pressure temperature) (now (shown .entry)) ⌝ }
+{
+    let refusal = code_refusal(body, air);
+    if refusal != 0 {
+        return refusal;
+    }
+    let asked = air_of(air, pressure, temperature);
+    match shown_place(start_of(start), body_of(body), point_of(point), asked) {
+        ShownAnswer::Seen(seen) => {
+            put_doubles(shown, seen.azimuth, seen.elevation, seen.refraction);
+            0
+        }
+        ShownAnswer::Refused(refused) => number_of(refused),
+    }
+}
