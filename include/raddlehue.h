@@ -1,189 +1,423 @@
 /* Raddlehue: where the Sun and the Moon stand, for C and C++.
  *
- * Link libcapi.a. No function keeps state, allocates or reads a clock, and every number may be given: what cannot be answered is refused by a number, with zeros elsewhere.
+ * Link libraddlehue.a. No function keeps state, allocates or reads a clock, so any number of threads may call any of them; every number may be given, and what
+ * cannot be answered is refused by a number. Each function comes in two forms: an export, which gives the refusal (0 where there is none), writes its answer
+ * through a pointer, and **writes nothing where it refuses**; and beside it an inline function whose name ends in _of, which takes structs and returns the answer
+ * as a struct, with the refusal in it and zeros elsewhere.
+ *
+ * Names say their unit: _e7 and _e8 are 1e-7 and 1e-8 degree, _e10 is 1e-10, _tenths are tenths of a second. Azimuth counts from north over east (east is 90
+ * degrees), longitude is east positive, latitude north positive, time is UTC in the Gregorian calendar and never a local zone, elevation counts from the
+ * horizon upward.
+ *
+ * What is asked of the caller: a pointer points to as many numbers as its type or its length says, aligned as C aligns them; memories that are written do not overlap
+ * others of the same call; about 8 KiB of stack (docs/FIGURES.md has the exact numbers); and, for the doubles of the shown place and of the refraction, the usual
+ * state of the floating-point unit: round to nearest, no flush to zero. Lengths have 64 bits on every processor.
  */
 #ifndef RADDLEHUE_H
 #define RADDLEHUE_H
 
-#include <stddef.h>
 #include <stdint.h>
 
 #ifdef __cplusplus
 extern "C" {
 #endif
 
-/* The refusal in an answer. They are checked in this order, the last three first of all; 0 where there is none. */
+#if defined(__cplusplus) || (defined(__STDC_VERSION__) && __STDC_VERSION__ >= 199901L)
+#define RADDLEHUE_INLINE static inline
+#elif defined(__GNUC__)
+#define RADDLEHUE_INLINE static __inline__
+#else
+#define RADDLEHUE_INLINE static
+#endif
+
+/* The version of this header and of the archive beside it. The first number changes when old code must not compile. */
+#define RADDLEHUE_VERSION "2.0.0"
+#define RADDLEHUE_VERSION_MAJOR 2
+#define RADDLEHUE_VERSION_MINOR 0
+#define RADDLEHUE_VERSION_PATCH 0
+
+/* Units of time to a second, and units of angle to a degree. */
+#define RADDLEHUE_SECOND 10
+#define RADDLEHUE_DEGREE_E7 10000000
+#define RADDLEHUE_DEGREE_E8 100000000
+
+/* The refusals, in the order in which they are checked; those from 101 on come first of all, since no request can be formed. docs/REFUSALS.md has the list. */
 enum {
     RADDLEHUE_ACCEPTED = 0,
-    RADDLEHUE_YEAR = 1,           /* not 1900 to 2100 */
-    RADDLEHUE_MONTH = 2,          /* not 1 to 12 */
-    RADDLEHUE_DAY = 3,            /* not in that Gregorian month */
-    RADDLEHUE_CLOCK = 4,          /* not hour 0-23, minute 0-59, second 0-59, tenth 0-9 */
-    RADDLEHUE_UT1 = 5,            /* not -9 to 9 tenths of a second */
-    RADDLEHUE_DELTA_T = 6,        /* not -80,000 to 80,000 tenths of a second */
-    RADDLEHUE_LONGITUDE = 7,      /* not within 1,800,000,000 either way */
-    RADDLEHUE_LATITUDE = 8,       /* not within 900,000,000 either way */
-    RADDLEHUE_HEIGHT = 9,         /* not -500 to 9,000 m */
-    RADDLEHUE_PRESSURE = 10,      /* measured, and not 0 to 1200 mbar */
-    RADDLEHUE_TEMPERATURE = 11,   /* measured, and not -80 to 80 degrees Celsius */
-    RADDLEHUE_SHORT_BUFFER = 12,  /* a buffer is shorter than the list of offsets */
-    RADDLEHUE_TOO_LATE = 13,      /* a start plus offset lies after 2100-12-31 23:59:59.9 UTC */
-    RADDLEHUE_OPPOSITE = 14,      /* two azimuths half a turn apart have no middle */
-    RADDLEHUE_NOT_REDUCED = 15,   /* an azimuth is not 0 to 35,999,999,999; judged before 14 */
-    RADDLEHUE_UNKNOWN_BODY = 101, /* the body is neither RADDLEHUE_SUN nor RADDLEHUE_MOON */
-    RADDLEHUE_UNKNOWN_AIR = 102,  /* the kind of air is none of RADDLEHUE_AIR_.. */
-    RADDLEHUE_NO_ELEVATION = 103  /* the elevation to refract is beyond 90 degrees either way */
+    RADDLEHUE_YEAR = 1,
+    RADDLEHUE_MONTH = 2,
+    RADDLEHUE_DAY = 3,
+    RADDLEHUE_CLOCK = 4,
+    RADDLEHUE_UT1 = 5,
+    RADDLEHUE_DELTA_T = 6,
+    RADDLEHUE_LONGITUDE = 7,
+    RADDLEHUE_LATITUDE = 8,
+    RADDLEHUE_HEIGHT = 9,
+    RADDLEHUE_PRESSURE = 10,
+    RADDLEHUE_TEMPERATURE = 11,
+    RADDLEHUE_SHORT_BUFFER = 12,
+    RADDLEHUE_TOO_LATE = 13,
+    RADDLEHUE_OPPOSITE = 14,
+    RADDLEHUE_NOT_REDUCED = 15,
+    RADDLEHUE_NOT_A_LINE = 16,
+    RADDLEHUE_UNKNOWN_BODY = 101,
+    RADDLEHUE_UNKNOWN_AIR = 102,
+    RADDLEHUE_NO_ELEVATION = 103,
+    RADDLEHUE_OUT_OF_REACH = 104
 };
 
-/* The body of a request. */
+/* A refusal in words; of a number that is none, that it is unknown. The text is constant and not to be freed. */
+RADDLEHUE_INLINE const char *raddlehue_refusal_text(uint32_t refusal)
+{
+    switch (refusal) {
+    case RADDLEHUE_ACCEPTED: return "accepted";
+    case RADDLEHUE_YEAR: return "the year is not 1900 to 2100";
+    case RADDLEHUE_MONTH: return "the month is not 1 to 12";
+    case RADDLEHUE_DAY: return "that month of the Gregorian calendar has no such day";
+    case RADDLEHUE_CLOCK: return "the time of the day is not hour 0 to 23, minute 0 to 59, second 0 to 59, tenth 0 to 9";
+    case RADDLEHUE_UT1: return "UT1 minus UTC is not -9 to 9 tenths of a second";
+    case RADDLEHUE_DELTA_T: return "delta-T is not -80,000 to 80,000 tenths of a second";
+    case RADDLEHUE_LONGITUDE: return "the longitude is not within 180 degrees";
+    case RADDLEHUE_LATITUDE: return "the latitude is not within 90 degrees";
+    case RADDLEHUE_HEIGHT: return "the height is not -500 to 9,000 metres";
+    case RADDLEHUE_PRESSURE: return "the measured pressure is not 0 to 1200 mbar";
+    case RADDLEHUE_TEMPERATURE: return "the measured temperature is not -80 to 80 degrees Celsius";
+    case RADDLEHUE_SHORT_BUFFER: return "a buffer is shorter than the list of offsets";
+    case RADDLEHUE_TOO_LATE: return "a start plus offset lies after 2100-12-31 23:59:59.9 UTC";
+    case RADDLEHUE_OPPOSITE: return "two azimuths half a turn apart have no middle";
+    case RADDLEHUE_NOT_REDUCED: return "an azimuth is not from 0 up to but not 360 degrees";
+    case RADDLEHUE_NOT_A_LINE: return "the line is not whole numbers with single spaces";
+    case RADDLEHUE_UNKNOWN_BODY: return "the body is neither Sun nor Moon";
+    case RADDLEHUE_UNKNOWN_AIR: return "the air is none of none, standard and measured";
+    case RADDLEHUE_NO_ELEVATION: return "the elevation is not within 90 degrees";
+    case RADDLEHUE_OUT_OF_REACH: return "the instant is not within 31,904,733,600 tenths of a second of 2000-01-01 12:00";
+    default: return "unknown refusal";
+    }
+}
+
+/* The body of a request: its centre. */
 enum { RADDLEHUE_SUN = 0, RADDLEHUE_MOON = 1 };
 
-/* The kind of an air. Standard means measured at 1010 mbar and 10 degrees Celsius. */
+/* The air of a request. Standard means measured at 1010 mbar and 10 degrees Celsius. */
 enum { RADDLEHUE_AIR_NONE = 0, RADDLEHUE_AIR_STANDARD = 1, RADDLEHUE_AIR_MEASURED = 2 };
 
-/* UTC in the Gregorian calendar, to the tenth of a second; UT1 minus UTC and delta-T (TT minus UT1) in tenths of a second. */
+/* A moment of UTC. */
 typedef struct {
-    int64_t year;
-    int64_t month;
-    int64_t day;
-    int64_t hour;
-    int64_t minute;
-    int64_t second;
-    int64_t fraction; /* tenths */
-    int64_t ut1;
-    int64_t delta;
+    int64_t year;            /* 1900 to 2100 */
+    int64_t month;           /* 1 to 12 */
+    int64_t day;             /* from 1 */
+    int64_t hour;            /* 0 to 23, UTC */
+    int64_t minute;          /* 0 to 59 */
+    int64_t second;          /* 0 to 59: a leap second is refused */
+    int64_t fraction_tenths; /* 0 to 9 */
+    int64_t ut1_tenths;      /* UT1 minus UTC, -9 to 9 */
+    int64_t delta_t_tenths;  /* delta-T, TT minus UT1: 67.0 s is 670; -80,000 to 80,000 */
 } raddlehue_start_t;
 
-/* Longitude (east positive) and latitude (north positive) in units of 1e-7 degree, height in metres. */
+/* Where the observer stands. */
 typedef struct {
-    int64_t longitude;
-    int64_t latitude;
-    int64_t height;
+    int64_t longitude_e7;  /* east positive, within 1,800,000,000 */
+    int64_t latitude_e7;   /* north positive, within 900,000,000 */
+    int64_t height_metres; /* above the sea, -500 to 9,000 */
 } raddlehue_point_t;
 
-/* Pressure in mbar and temperature in degrees Celsius, both read only where the kind is RADDLEHUE_AIR_MEASURED. */
+/* The air, as the inline functions take it. */
 typedef struct {
-    uint32_t kind;
-    double pressure;
-    double temperature;
+    uint32_t kind;              /* RADDLEHUE_AIR_.. */
+    double pressure_mbar;       /* read only where measured, 0 to 1200 */
+    double temperature_celsius; /* read only where measured, -80 to 80 */
 } raddlehue_air_t;
 
-/* Azimuth from north over east, 0 to 35,999,999,999, and elevation above the horizon without refraction, in units of 1e-8 degree. */
+/* ---- the place of a body */
+
 typedef struct {
-    uint8_t refusal;
-    int64_t azimuth;
-    int64_t elevation;
+    int64_t azimuth_e8;   /* from north over east, 0 to 35,999,999,999 */
+    int64_t elevation_e8; /* above the horizon, without refraction, within 9,000,000,000 */
 } raddlehue_place_t;
 
-/* The air does not change this place, and a bad one is refused all the same. */
-raddlehue_place_t raddlehue_place(raddlehue_start_t start, uint32_t body, raddlehue_point_t point, raddlehue_air_t air);
+/* Against JPL's DE431 the Sun lies within 0.0002 degree and the Moon within 0.002 (docs/FIGURES.md), given the right UT1 and delta-T. The air does not change this
+ * place, and a bad one is refused all the same. Refused: 101, 102, then 1 to 11. */
+uint32_t raddlehue_place(
+    const raddlehue_start_t *start, uint32_t body, const raddlehue_point_t *point,
+    uint32_t air, double pressure_mbar, double temperature_celsius, raddlehue_place_t *place);
 
-/* Azimuth from north over east, elevation with the refraction in it, and the refraction, in degrees. */
 typedef struct {
-    uint8_t refusal;
-    double azimuth;
-    double elevation;
-    double refraction;
+    uint32_t refusal;
+    int64_t azimuth_e8;
+    int64_t elevation_e8;
+} raddlehue_place_answer_t;
+
+RADDLEHUE_INLINE raddlehue_place_answer_t raddlehue_place_of(
+    raddlehue_start_t start, uint32_t body, raddlehue_point_t point, raddlehue_air_t air)
+{
+    raddlehue_place_t place = {0, 0};
+    raddlehue_place_answer_t answer;
+    answer.refusal = raddlehue_place(&start, body, &point, air.kind, air.pressure_mbar, air.temperature_celsius, &place);
+    answer.azimuth_e8 = place.azimuth_e8;
+    answer.elevation_e8 = place.elevation_e8;
+    return answer;
+}
+
+/* ---- the place as it is shown */
+
+typedef struct {
+    double azimuth_degrees;    /* from north over east, from 0 up to but not 360 */
+    double elevation_degrees;  /* with the refraction in it */
+    double refraction_degrees; /* slightly below zero near the zenith, by the report's formula; 0 below the horizon and without air */
 } raddlehue_shown_place_t;
 
-raddlehue_shown_place_t raddlehue_shown_place(raddlehue_start_t start, uint32_t body, raddlehue_point_t point, raddlehue_air_t air);
+/* Refused: 101, 102, then 1 to 11. */
+uint32_t raddlehue_shown_place(
+    const raddlehue_start_t *start, uint32_t body, const raddlehue_point_t *point,
+    uint32_t air, double pressure_mbar, double temperature_celsius, raddlehue_shown_place_t *shown);
 
-/* The index of the first offset that is too late (refusal 13, otherwise 0), and how many entries of each buffer were written. */
 typedef struct {
-    uint8_t refusal;
-    size_t index;
-    size_t count;
+    uint32_t refusal;
+    double azimuth_degrees;
+    double elevation_degrees;
+    double refraction_degrees;
+} raddlehue_shown_place_answer_t;
+
+RADDLEHUE_INLINE raddlehue_shown_place_answer_t raddlehue_shown_place_of(
+    raddlehue_start_t start, uint32_t body, raddlehue_point_t point, raddlehue_air_t air)
+{
+    raddlehue_shown_place_t shown = {0.0, 0.0, 0.0};
+    raddlehue_shown_place_answer_t answer;
+    answer.refusal = raddlehue_shown_place(&start, body, &point, air.kind, air.pressure_mbar, air.temperature_celsius, &shown);
+    answer.azimuth_degrees = shown.azimuth_degrees;
+    answer.elevation_degrees = shown.elevation_degrees;
+    answer.refraction_degrees = shown.refraction_degrees;
+    return answer;
+}
+
+/* ---- many places from one start */
+
+typedef struct {
+    uint64_t index; /* the first offset that is too late, where the refusal is 13; otherwise 0 */
+    uint64_t count; /* how many entries of each buffer were written */
 } raddlehue_batch_t;
 
-/* Offsets in tenths of a second after the start; azimuths from north over east and elevations without refraction in units of 1e-8 degree.
- * Entry i of each buffer is the place at offset i, and what lies beyond the last offset is left alone; a refused batch writes nothing.
- * Each length counts entries. The three memories may not overlap, and a length of 0 may come with a null pointer.
- */
-raddlehue_batch_t raddlehue_batch(
+/* Entry i of each buffer is the place at offset i; what lies beyond the last offset is left alone, and a refused batch writes to neither buffer. `batch` is written
+ * where the batch is accepted, and where it is refused by 13, for the index. A length counts entries, and one of 0 may come with a null pointer. Refused: 101, then 1
+ * to 9, 12 and 13. */
+uint32_t raddlehue_batch(
+    const raddlehue_start_t *start, uint32_t body, const raddlehue_point_t *point,
+    const uint32_t *offsets_tenths, uint64_t offsets_length,
+    int64_t *azimuths_e8, uint64_t azimuths_length,
+    int64_t *elevations_e8, uint64_t elevations_length,
+    raddlehue_batch_t *batch);
+
+typedef struct {
+    uint32_t refusal;
+    uint64_t index;
+    uint64_t count;
+} raddlehue_batch_answer_t;
+
+RADDLEHUE_INLINE raddlehue_batch_answer_t raddlehue_batch_of(
     raddlehue_start_t start, uint32_t body, raddlehue_point_t point,
-    const uint32_t *offsets, size_t offsets_length,
-    int64_t *azimuths, size_t azimuths_length,
-    int64_t *elevations, size_t elevations_length);
+    const uint32_t *offsets_tenths, uint64_t offsets_length,
+    int64_t *azimuths_e8, uint64_t azimuths_length,
+    int64_t *elevations_e8, uint64_t elevations_length)
+{
+    raddlehue_batch_t batch = {0, 0};
+    raddlehue_batch_answer_t answer;
+    answer.refusal = raddlehue_batch(
+        &start, body, &point, offsets_tenths, offsets_length, azimuths_e8, azimuths_length, elevations_e8, elevations_length, &batch);
+    answer.index = batch.index;
+    answer.count = batch.count;
+    return answer;
+}
 
-/* An azimuth from north over east, 0 to 35,999,999,999, in units of 1e-8 degree. */
+/* ---- the middle of two azimuths */
+
+/* Half way between two azimuths, the short way round: of 359.9 and 0.1 degree it is 0. Refused: 15, then 14. */
+uint32_t raddlehue_middle(int64_t a_e8, int64_t b_e8, int64_t *azimuth_e8);
+
 typedef struct {
-    uint8_t refusal;
-    int64_t azimuth;
-} raddlehue_middle_t;
+    uint32_t refusal;
+    int64_t azimuth_e8; /* 0 to 35,999,999,999 */
+} raddlehue_middle_answer_t;
 
-/* Two azimuths from north over east, in units of 1e-8 degree; the answer lies half way between them, the short way round. */
-raddlehue_middle_t raddlehue_middle(int64_t a, int64_t b);
+RADDLEHUE_INLINE raddlehue_middle_answer_t raddlehue_middle_of(int64_t a_e8, int64_t b_e8)
+{
+    raddlehue_middle_answer_t answer;
+    answer.azimuth_e8 = 0;
+    answer.refusal = raddlehue_middle(a_e8, b_e8, &answer.azimuth_e8);
+    return answer;
+}
 
-/* How much the air raises a body, in degrees. */
+/* ---- refraction */
+
+/* How much the air raises a body whose elevation without refraction is given, within 9,000,000,000. Refused: 102, 103, then 10 and 11. */
+uint32_t raddlehue_refraction(
+    int64_t elevation_e8, uint32_t air, double pressure_mbar, double temperature_celsius, double *refraction_degrees);
+
 typedef struct {
-    uint8_t refusal;
-    double refraction;
-} raddlehue_refraction_t;
+    uint32_t refusal;
+    double refraction_degrees;
+} raddlehue_refraction_answer_t;
 
-/* The elevation without refraction, in units of 1e-8 degree, within 9,000,000,000 either way. */
-raddlehue_refraction_t raddlehue_refraction(int64_t elevation, raddlehue_air_t air);
+RADDLEHUE_INLINE raddlehue_refraction_answer_t raddlehue_refraction_of(int64_t elevation_e8, raddlehue_air_t air)
+{
+    raddlehue_refraction_answer_t answer;
+    answer.refraction_degrees = 0.0;
+    answer.refusal = raddlehue_refraction(elevation_e8, air.kind, air.pressure_mbar, air.temperature_celsius, &answer.refraction_degrees);
+    return answer;
+}
 
-/* Days from 2000-01-01 in the Gregorian calendar; refused by 1, 2 or 3. */
+/* ---- dates and instants */
+
+/* Days from 2000-01-01. Refused: 1 to 3. */
+uint32_t raddlehue_day_count(int64_t year, int64_t month, int64_t day, int64_t *days);
+
 typedef struct {
-    uint8_t refusal;
+    uint32_t refusal;
     int64_t days;
-} raddlehue_day_count_t;
+} raddlehue_day_count_answer_t;
 
-raddlehue_day_count_t raddlehue_day_count(int64_t year, int64_t month, int64_t day);
+RADDLEHUE_INLINE raddlehue_day_count_answer_t raddlehue_day_count_of(int64_t year, int64_t month, int64_t day)
+{
+    raddlehue_day_count_answer_t answer;
+    answer.days = 0;
+    answer.refusal = raddlehue_day_count(year, month, day, &answer.days);
+    return answer;
+}
 
-/* Sine and cosine, times 1e9, of any angle in units of 1e-8 degree. */
-int64_t raddlehue_sine(int64_t x);
-int64_t raddlehue_cosine(int64_t x);
-
-/* The angle of (x, y) from the x axis towards y, 0 to 35,999,999,999, in units of 1e-8 degree. */
-uint64_t raddlehue_arctangent(int64_t y, int64_t x);
-
-/* The greatest whole number whose square is not above x. */
-uint64_t raddlehue_root(uint64_t x);
-
-/* The Moon before nutation: ecliptic longitude (reduced) and latitude in units of 1e-8 degree, metres from the Earth's centre.
- * Here and below, `within` is 1 for an instant within 31,904,733,600 either way, and otherwise 0, with zeros.
- */
+/* A moment in both scales, from 2000-01-01 12:00: UT turns the Earth, TT moves the Sun and the Moon. The sums below ask for them. */
 typedef struct {
-    uint8_t within;
-    uint64_t longitude;
-    int64_t latitude;
-    int64_t metres;
+    int64_t ut_tenths;
+    int64_t tt_tenths;
+} raddlehue_instant_t;
+
+/* Refused: 1 to 6. */
+uint32_t raddlehue_instant(const raddlehue_start_t *start, raddlehue_instant_t *instant);
+
+typedef struct {
+    uint32_t refusal;
+    int64_t ut_tenths;
+    int64_t tt_tenths;
+} raddlehue_instant_answer_t;
+
+RADDLEHUE_INLINE raddlehue_instant_answer_t raddlehue_instant_of(raddlehue_start_t start)
+{
+    raddlehue_instant_t instant = {0, 0};
+    raddlehue_instant_answer_t answer;
+    answer.refusal = raddlehue_instant(&start, &instant);
+    answer.ut_tenths = instant.ut_tenths;
+    answer.tt_tenths = instant.tt_tenths;
+    return answer;
+}
+
+/* ---- the sums at one instant; each is refused by 104 where the instant is out of reach */
+
+/* The Moon from the Earth's centre, before nutation. */
+typedef struct {
+    int64_t longitude_e8;    /* ecliptic, 0 to 35,999,999,999 */
+    int64_t latitude_e8;     /* ecliptic */
+    int64_t distance_metres; /* from the Earth's centre */
 } raddlehue_moon_sums_t;
 
-/* TT in tenths of a second from 2000-01-01 12:00. */
-raddlehue_moon_sums_t raddlehue_moon_sums(int64_t tt);
+uint32_t raddlehue_moon_sums(int64_t tt_tenths, raddlehue_moon_sums_t *sums);
 
-/* The Earth around the Sun: ecliptic longitude and latitude in units of 1e-10 radian, no turn taken off, and radius in 1e-10 AU. */
 typedef struct {
-    uint8_t within;
-    int64_t longitude;
-    int64_t latitude;
-    int64_t radius;
+    uint32_t refusal;
+    int64_t longitude_e8;
+    int64_t latitude_e8;
+    int64_t distance_metres;
+} raddlehue_moon_sums_answer_t;
+
+RADDLEHUE_INLINE raddlehue_moon_sums_answer_t raddlehue_moon_sums_of(int64_t tt_tenths)
+{
+    raddlehue_moon_sums_t sums = {0, 0, 0};
+    raddlehue_moon_sums_answer_t answer;
+    answer.refusal = raddlehue_moon_sums(tt_tenths, &sums);
+    answer.longitude_e8 = sums.longitude_e8;
+    answer.latitude_e8 = sums.latitude_e8;
+    answer.distance_metres = sums.distance_metres;
+    return answer;
+}
+
+/* The Earth around the Sun. */
+typedef struct {
+    int64_t longitude_radians_e10; /* ecliptic, no turn taken off */
+    int64_t latitude_radians_e10;  /* ecliptic */
+    int64_t radius_au_e10;         /* from the Sun's centre */
 } raddlehue_sun_sums_t;
 
-/* TT in tenths of a second from 2000-01-01 12:00. */
-raddlehue_sun_sums_t raddlehue_sun_sums(int64_t tt);
+uint32_t raddlehue_sun_sums(int64_t tt_tenths, raddlehue_sun_sums_t *sums);
 
-/* Nutation in longitude and in obliquity, and the true obliquity, in units of 1e-8 degree. */
 typedef struct {
-    uint8_t within;
-    int64_t longitude;
-    int64_t obliquity;
-    int64_t true_obliquity;
+    uint32_t refusal;
+    int64_t longitude_radians_e10;
+    int64_t latitude_radians_e10;
+    int64_t radius_au_e10;
+} raddlehue_sun_sums_answer_t;
+
+RADDLEHUE_INLINE raddlehue_sun_sums_answer_t raddlehue_sun_sums_of(int64_t tt_tenths)
+{
+    raddlehue_sun_sums_t sums = {0, 0, 0};
+    raddlehue_sun_sums_answer_t answer;
+    answer.refusal = raddlehue_sun_sums(tt_tenths, &sums);
+    answer.longitude_radians_e10 = sums.longitude_radians_e10;
+    answer.latitude_radians_e10 = sums.latitude_radians_e10;
+    answer.radius_au_e10 = sums.radius_au_e10;
+    return answer;
+}
+
+typedef struct {
+    int64_t longitude_e8;      /* nutation in longitude */
+    int64_t obliquity_e8;      /* nutation in obliquity */
+    int64_t true_obliquity_e8; /* of the ecliptic, the nutation in it */
 } raddlehue_nutation_t;
 
-/* TT in tenths of a second from 2000-01-01 12:00. */
-raddlehue_nutation_t raddlehue_nutation(int64_t tt);
+uint32_t raddlehue_nutation(int64_t tt_tenths, raddlehue_nutation_t *nutation);
 
-/* Mean sidereal time at Greenwich, 0 to 35,999,999,999, in units of 1e-8 degree. */
 typedef struct {
-    uint8_t within;
-    uint64_t mean;
-} raddlehue_mean_sidereal_t;
+    uint32_t refusal;
+    int64_t longitude_e8;
+    int64_t obliquity_e8;
+    int64_t true_obliquity_e8;
+} raddlehue_nutation_answer_t;
 
-/* UT in tenths of a second from 2000-01-01 12:00. */
-raddlehue_mean_sidereal_t raddlehue_mean_sidereal(int64_t ut);
+RADDLEHUE_INLINE raddlehue_nutation_answer_t raddlehue_nutation_of(int64_t tt_tenths)
+{
+    raddlehue_nutation_t nutation = {0, 0, 0};
+    raddlehue_nutation_answer_t answer;
+    answer.refusal = raddlehue_nutation(tt_tenths, &nutation);
+    answer.longitude_e8 = nutation.longitude_e8;
+    answer.obliquity_e8 = nutation.obliquity_e8;
+    answer.true_obliquity_e8 = nutation.true_obliquity_e8;
+    return answer;
+}
+
+/* Mean sidereal time at Greenwich, 0 to 35,999,999,999. */
+uint32_t raddlehue_mean_sidereal(int64_t ut_tenths, int64_t *sidereal_e8);
+
+typedef struct {
+    uint32_t refusal;
+    int64_t sidereal_e8;
+} raddlehue_mean_sidereal_answer_t;
+
+RADDLEHUE_INLINE raddlehue_mean_sidereal_answer_t raddlehue_mean_sidereal_of(int64_t ut_tenths)
+{
+    raddlehue_mean_sidereal_answer_t answer;
+    answer.sidereal_e8 = 0;
+    answer.refusal = raddlehue_mean_sidereal(ut_tenths, &answer.sidereal_e8);
+    return answer;
+}
+
+/* ---- numbers; nothing is refused */
+
+/* Sine and cosine times 1e9 of any angle, within 6 of the exact ones; at most 1,000,000,001 either way, since rounding may pass 1e9 by one. */
+int64_t raddlehue_sine(int64_t angle_e8);
+int64_t raddlehue_cosine(int64_t angle_e8);
+
+/* The angle of (x, y) from the x axis towards y, 0 to 35,999,999,999; 0 where both are zero. Thirty whole-number steps: a pair of thousands or more is good to some
+ * units, a tiny one is not (of (1, 0) it is 9,004,472,123). */
+int64_t raddlehue_arctangent(int64_t y, int64_t x);
+
+/* The greatest whole number whose square is not above the given one. */
+uint64_t raddlehue_root(uint64_t square);
 
 #ifdef __cplusplus
 }
