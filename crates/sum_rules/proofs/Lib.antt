@@ -11,3 +11,4 @@ pub mod Accurate
 pub mod TablesPinned
 pub mod CasesHold
 pub mod AcceptedInstants
+pub mod ExactCasesHold

@@ -11,3 +11,4 @@ pub mod ExactSums
 pub mod Accuracy
 pub mod Digest
 pub mod Cases
+pub mod ExactCases
