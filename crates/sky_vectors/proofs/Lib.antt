@@ -1,4 +1,5 @@
-pub mod SkySizes
 pub mod SkyMirror
+pub mod RotationLaws
 pub mod Parallax
+pub mod SkySizes
 pub mod PlaceLaws

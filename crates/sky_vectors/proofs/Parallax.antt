@@ -8,6 +8,7 @@ use Rattle.arithmetic.specs.Floor.{⌊_÷_⌋}
 use Rattle.arithmetic.proofs.Sizes.{at-least}
 use Rattle.sky_vectors.specs.Geocentric.{geocentric, moon-geocentric, sun-geocentric}
 use Rattle.sky_vectors.specs.Observer.{radius}
+use Rattle.sky_vectors.specs.SkyRange.{parallax-limit}
 use Rattle.sky_vectors.specs.declared.geocentric.Body.{Body}
 use Rattle.sums.proofs.Distances.{R-least, metres-least}
 use Rattle.sum_rules.specs.Instant.{furthest}
@@ -22,7 +23,7 @@ over-far a m k z above far h =
     let wide : m ≤ natAbs z = at-least far in
     le-of-suc-le-suc (div-lt-iff-lt-mul (lt-of-lt-of-le above wide) .1 (lt-of-lt-of-le h (mul-le-mul-left (suc k) wide)))
 
-pub parallax-small : (body : Body) (n : ℤ) → natAbs n ≤ furthest → natAbs (geocentric body n .parallax) ≤ 20_000_000
+pub parallax-small : (body : Body) (n : ℤ) → natAbs n ≤ furthest → natAbs (geocentric body n .parallax) ≤ parallax-limit
 unfolding sun-geocentric moon-geocentric
-parallax-small Bodies.Sun n h = over-far (42_635 * 10_000_000_000) 9_800_000_000 20_000_000 (Sun.R n) (lit< tt) (R-least n h) (lit< tt)
-parallax-small Bodies.Moon n h = over-far (radius * 1_000_000_000) 350_000_000 20_000_000 (Moon.metres n) (lit< tt) (metres-least n h) (lit< tt)
+parallax-small Bodies.Sun n h = over-far (42_635 * 10_000_000_000) 9_800_000_000 parallax-limit (Sun.R n) (lit< tt) (R-least n h) (lit< tt)
+parallax-small Bodies.Moon n h = over-far (radius * 1_000_000_000) 350_000_000 parallax-limit (Moon.metres n) (lit< tt) (metres-least n h) (lit< tt)

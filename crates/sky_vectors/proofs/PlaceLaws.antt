@@ -8,16 +8,15 @@ use lib.IntN.{natAbs, negsuc, negℤ, pos, ℤ}
 use lib.Signed.{_≤ℤ_, ltZ}
 use Rattle.numbers.proofs.Machine.{lit, not-less}
 use Rattle.number_rules.specs.Angle.{quarter-turn}
-use Rattle.numbers.specs.Arctangent.{arctangent}
+use Rattle.numbers.specs.declared.sine.SineCosine.{SineCosine}
 use Rattle.sky_vectors.proofs.SkyMirror.{arctangent-most}
-use Rattle.sky_vectors.specs.Geocentric.{geocentric}
-use Rattle.sky_vectors.specs.Horizon.{azimuth, clamped, elevation, level, lowered}
-use Rattle.sky_vectors.specs.Place.{InTurns, from-runner, place-at, place-of}
-use Rattle.sky_vectors.specs.Station.{station}
-use Rattle.sky_vectors.specs.declared.geocentric.Geocentric.{Geocentric}
+use Rattle.sky_vectors.specs.Horizon.{azimuth, clamped, elevation, horizon, level, lowered, rising}
+use Rattle.sky_vectors.specs.Place.{InTurns, direction, place-at, place-from, place-towards}
+use Rattle.sky_vectors.specs.Station.{runner}
 use Rattle.sky_vectors.specs.declared.geocentric.Body.{Body}
 use Rattle.sky_vectors.specs.declared.station.Point.{Point}
-use Rattle.sky_vectors.specs.declared.station.Station.{Station}
+use Rattle.sky_vectors.specs.declared.station.Runner.{Runner}
+use Rattle.sky_vectors.specs.declared.vector.Vector.{Vector}
 use Rattle.sum_rules.specs.declared.instant.Instant.{Instant}
 
 abbrev lowest : ℤ
@@ -37,12 +36,16 @@ clamped-most e = go (ltZ (pos quarter-turn) e) (ltZ e lowest) refl refl
     go false true h l = lit≤ tt
     go false false h l = between (not-less (lit (pos quarter-turn)) (lit e) h) (not-less (lit e) (lit lowest) l)
 
-pub place-in-turns : (body : Geocentric) (station : Station) → InTurns (place-of body station)
-unfolding place-of azimuth elevation
-place-in-turns body station =
-    let h = from-runner body station in
-    record { azimuth-size = arctangent-most (h .east) (h .north); elevation-size = clamped-most (lowered (pos (arctangent (h .up) (level h)))) }
+pub place-towards-in-turns : (φ : SineCosine) (v : Vector) → InTurns (place-towards φ v)
+unfolding place-towards azimuth elevation
+place-towards-in-turns φ v =
+    let h = horizon φ v in
+    record { azimuth-size = arctangent-most (h .east) (h .north); elevation-size = clamped-most (lowered (rising (h .up) (level h))) }
+
+pub place-from-in-turns : (body : Body) (runner : Runner) (instant : Instant) → InTurns (place-from body runner instant)
+unfolding place-from
+place-from-in-turns body runner instant = place-towards-in-turns (runner .latitude) (direction body runner instant)
 
 pub place-at-in-turns : (body : Body) (point : Point) (instant : Instant) → InTurns (place-at body point instant)
 unfolding place-at
-place-at-in-turns body point instant = place-in-turns (geocentric body (instant .tt)) (station point (instant .ut) (instant .tt))
+place-at-in-turns body point instant = place-from-in-turns body (runner point) instant

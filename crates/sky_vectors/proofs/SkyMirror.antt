@@ -1,24 +1,23 @@
 -- A field of a struct as a `Mirror`, and what the sky's calls ask and give in mirrors.
-use mathlib.Core.Bool.{Bool, _&&_}
+use mathlib.Core.Bool.{Bool, cond, false, true}
 use mathlib.Core.Path.{_∙_, _≡_, ap, refl}
-use Prim.Native.Nat.{_*_, _<_, _^_, _≤_, ℕ}
+use Prim.Native.Nat.{_*_, _+_, _^_, _≤_, ℕ}
 use native.Mathlib.Nat.{le-of-lt, le-trans}
 use native.Mathlib.Omega.{arith}
-use lib.Dec.{T, leb, leb→le, ltb}
-use lib.IntN.{_*ℤ_, _+ℤ_, _-ℤ_, natAbs, negsuc, pos, ℤ}
-use lib.Signed.{mag, nonNeg}
-use mir.Facts.{and-yes}
+use lib.Dec.{T, eqb, leb, leb→le, lit≤, ltb}
+use lib.IntN.{_*ℤ_, natAbs, negsuc, pos, ℤ}
+use lib.Signed.{nonNeg}
 use mir.Syntax.{w64}
-use mir.Val.{Fits, SFits, ofZ, toZ}
+use mir.Val.{Fits, SFits, toZ}
 use mir.ValLaws.{toZ-pos}
 use Rattle.arithmetic.proofs.Sizes.{mul-bound}
 use Rattle.number_rules.specs.Angle.{full-turn}
 use Rattle.numbers.specs.Arctangent.{arctangent}
 use Rattle.numbers.specs.declared.sine.SineCosine.{SineCosine}
 use Rattle.numbers.proofs.ArctangentLaws.{arctangent-below}
-use Rattle.numbers.proofs.Machine.{Mirror, asked, nat-fits, passed, told}
-use Rattle.sky_vectors.specs.Product.{_·_}
-use Rattle.sky_vectors.specs.SkyRange.{OneAngle, Products, Within}
+use Rattle.numbers.proofs.Machine.{Mirror, nat-fits, told}
+use Rattle.sky_vectors.specs.Horizon.{elevation-of-zeros, rising}
+use Rattle.sky_vectors.specs.SkyRange.{OneAngle, SmallVector}
 use Rattle.sky_vectors.specs.declared.vector.Vector.{Vector}
 
 abbrev pub field : (x : ℤ) {m : ℕ} → natAbs x ≤ m → T (ltb m (2 ^ 63)) → Mirror
@@ -30,7 +29,7 @@ sine-in {t} u = field (t .sine) (u .sine-size) tt
 abbrev pub cosine-in : {t : SineCosine} → OneAngle t → Mirror
 cosine-in {t} u = field (t .cosine) (u .cosine-size) tt
 
-module _ {m : ℕ} {v : Vector} (w : Within m v) (t : T (ltb m (2 ^ 63))) where
+module _ {m : ℕ} {v : Vector} (w : SmallVector m v) (t : T (ltb m (2 ^ 63))) where
   abbrev pub x-in : Mirror
   x-in = field (v .x) (w .x-size) t
 
@@ -39,26 +38,6 @@ module _ {m : ℕ} {v : Vector} (w : Within m v) (t : T (ltb m (2 ^ 63))) where
 
   abbrev pub z-in : Mirror
   z-in = field (v .z) (w .z-size) t
-
--- ---- two products
-abbrev in-range : Mirror → Mirror → Mirror → Mirror → Bool
-in-range p u q v = (leb (p .most) 3_000_000_000 && leb (u .most) 2_000_000_000) && (leb (q .most) 3_000_000_000 && leb (v .most) 2_000_000_000)
-
-module _ (p u q v : Mirror) where
-  pub products : T (in-range p u q v) → Products (p .machine) (u .machine) (q .machine) (v .machine)
-  products t =
-      let both = and-yes (leb (p .most) 3_000_000_000 && leb (u .most) 2_000_000_000) _ t in
-      let l = and-yes (leb (p .most) 3_000_000_000) (leb (u .most) 2_000_000_000) (both .0) in
-      let r = and-yes (leb (q .most) 3_000_000_000) (leb (v .most) 2_000_000_000) (both .1) in
-      record { first = asked p (l .0); with-first = asked u (l .1); second = asked q (r .0); with-second = asked v (r .1) }
-
-  pub gave-added : {r : ℤ} → mag r < 2 ^ 63 → r ≡ p .machine · u .machine +ℤ q .machine · v .machine
-      → toZ w64 (ofZ w64 r) ≡ p .number · u .number +ℤ q .number · v .number
-  gave-added f e = passed f e ∙ (λ i. p .same i · u .same i +ℤ q .same i · v .same i)
-
-  pub gave-subtracted : {r : ℤ} → mag r < 2 ^ 63 → r ≡ p .machine · u .machine -ℤ q .machine · v .machine
-      → toZ w64 (ofZ w64 r) ≡ p .number · u .number -ℤ q .number · v .number
-  gave-subtracted f e = passed f e ∙ (λ i. p .same i · u .same i -ℤ q .same i · v .same i)
 
 -- ---- an arctangent, as a signed number
 pub arctangent-most : (y x : ℤ) → arctangent y x ≤ full-turn
@@ -76,6 +55,14 @@ angle-gave {r} y x e =
       same = toZ-pos w64 r (angle-fits y x e .sfits) ∙ ap pos (e ∙ (λ i. arctangent (y .same i) (x .same i)));
       bound = arctangent-most (y .number) (x .number);
     }
+
+pub rising-most : (up level : ℤ) → natAbs (rising up level) ≤ full-turn
+unfolding rising
+rising-most up level = go (eqb (natAbs up + natAbs level) 0)
+  where
+    go : (b : Bool) → natAbs (cond b elevation-of-zeros (pos (arctangent up level))) ≤ full-turn
+    go true = lit≤ tt
+    go false = arctangent-most up level
 
 -- ---- a square, as an unsigned number
 pub square-is : (z : ℤ) → z *ℤ z ≡ pos (natAbs z * natAbs z)

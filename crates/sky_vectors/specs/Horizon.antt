@@ -1,5 +1,7 @@
 -- Up, north and east, and their angles (01, "From the centre to the runner").
 use mathlib.Core.Bool.{cond}
+use Prim.Native.Nat.{_+_}
+use lib.Dec.{eqb}
 use lib.IntN.{_*ℤ_, _+ℤ_, _-ℤ_, natAbs, negℤ, pos, ℤ}
 use lib.Signed.{leZ, ltZ}
 use Rattle.number_rules.specs.Angle.{full-turn, half-turn, quarter-turn}
@@ -27,6 +29,14 @@ azimuth h = pos (arctangent (h .east) (h .north))
 unfoldable pub level : Horizon → ℤ
 level h = pos (root (natAbs (h .north *ℤ h .north +ℤ h .east *ℤ h .east)))
 
+-- both zero: the elevation's own rule, apart from the arctangent's
+abbrev pub elevation-of-zeros : ℤ
+elevation-of-zeros = pos 0
+
+-- arctangent(up, level)
+unfoldable pub rising : ℤ → ℤ → ℤ
+rising up level = cond (eqb (natAbs up + natAbs level) 0) elevation-of-zeros (pos (arctangent up level))
+
 -- less a whole turn from 180 degrees up
 unfoldable pub lowered : ℤ → ℤ
 lowered a = cond (leZ (pos half-turn) a) (a -ℤ pos full-turn) a
@@ -37,4 +47,4 @@ clamped e = cond (ltZ (pos quarter-turn) e) (pos quarter-turn) (cond (ltZ e (neg
 
 -- elevation = arctangent(up, root(north² + east²)), lowered and clamped
 unfoldable pub elevation : Horizon → ℤ
-elevation h = clamped (lowered (pos (arctangent (h .up) (level h))))
+elevation h = clamped (lowered (rising (h .up) (level h)))

@@ -1,8 +1,10 @@
 pub mod Product
+pub mod Rotation
 pub mod Vector
 pub mod Observer
 pub mod Horizon
 pub mod Geocentric
 pub mod Station
+pub mod Orientation
 pub mod Place
 pub mod SkyRange

@@ -2,40 +2,50 @@
 use Prim.Native.Nat.{_≤_}
 use lib.IntN.{natAbs}
 use Rattle.number_rules.specs.Angle.{full-turn, quarter-turn}
+use Rattle.numbers.specs.declared.sine.SineCosine.{SineCosine}
 use Rattle.sum_rules.specs.declared.instant.Instant.{Instant}
 use Rattle.sky_vectors.specs.Geocentric.{geocentric}
 use Rattle.sky_vectors.specs.Horizon.{azimuth, elevation, horizon}
-use Rattle.sky_vectors.specs.Observer.{observer, shifted}
+use Rattle.sky_vectors.specs.Observer.{shifted}
+use Rattle.sky_vectors.specs.Orientation.{orientation}
 use Rattle.sky_vectors.specs.Product.{sine-cosine}
-use Rattle.sky_vectors.specs.Station.{station}
+use Rattle.sky_vectors.specs.Station.{runner}
 use Rattle.sky_vectors.specs.Vector.{equatorial, meridian, unit-vector}
-use Rattle.sky_vectors.specs.declared.horizon.Horizon.{Horizon}
-use Rattle.sky_vectors.specs.declared.geocentric.Geocentric.{Geocentric}
-use Rattle.sky_vectors.specs.declared.place.Place.{Place}
 use Rattle.sky_vectors.specs.declared.geocentric.Body.{Body}
+use Rattle.sky_vectors.specs.declared.geocentric.Geocentric.{Geocentric}
+use Rattle.sky_vectors.specs.declared.observer.Observer.{Observer}
+use Rattle.sky_vectors.specs.declared.orientation.Orientation.{Orientation}
+use Rattle.sky_vectors.specs.declared.place.Place.{Place}
 use Rattle.sky_vectors.specs.declared.station.Point.{Point}
-use Rattle.sky_vectors.specs.declared.station.Station.{Station}
+use Rattle.sky_vectors.specs.declared.station.Runner.{Runner}
 use Rattle.sky_vectors.specs.declared.vector.Vector.{Vector}
 
--- the unit vector, by the obliquity and by θ = sidereal + longitude
-unfoldable pub from-centre : Geocentric → Station → Vector
-from-centre body station =
-    meridian (sine-cosine (station .sidereal))
-    (equatorial (sine-cosine (station .obliquity)) (unit-vector (sine-cosine (body .longitude)) (sine-cosine (body .latitude))))
+-- the unit vector, by the obliquity ε and by θ = sidereal + longitude
+unfoldable pub from-centre : Geocentric → Orientation → Vector
+from-centre body at =
+    meridian (sine-cosine (at .sidereal))
+    (equatorial (sine-cosine (at .obliquity)) (unit-vector (sine-cosine (body .longitude)) (sine-cosine (body .latitude))))
 
--- less the parallax times the observer; up, north and east
-unfoldable pub from-runner : Geocentric → Station → Horizon
-from-runner body station =
-    let φ = sine-cosine (station .latitude) in
-    horizon φ (shifted (body .parallax) (observer φ (station .height)) (from-centre body station))
+-- a less p·f, z less p·g
+unfoldable pub from-surface : Geocentric → Orientation → Observer → Vector
+from-surface body at observer = shifted (body .parallax) observer (from-centre body at)
 
--- azimuth and elevation
-unfoldable pub place-of : Geocentric → Station → Place
-place-of body station = record { azimuth = azimuth (from-runner body station); elevation = elevation (from-runner body station) }
+-- the direction of a body after parallax, from where a runner stands, at an instant
+unfoldable pub direction : Body → Runner → Instant → Vector
+direction body runner instant =
+    from-surface (geocentric body (instant .tt)) (orientation (runner .longitude) (instant .ut) (instant .tt)) (runner .observer)
 
--- of a body at an instant, from a point on Earth
+-- azimuth and elevation of a direction, at latitude φ
+unfoldable pub place-towards : SineCosine → Vector → Place
+place-towards φ v = record { azimuth = azimuth (horizon φ v); elevation = elevation (horizon φ v) }
+
+-- of a body at an instant, from where a runner stands
+unfoldable pub place-from : Body → Runner → Instant → Place
+place-from body runner instant = place-towards (runner .latitude) (direction body runner instant)
+
+-- the same, from a point on Earth
 unfoldable pub place-at : Body → Point → Instant → Place
-place-at body point instant = place-of (geocentric body (instant .tt)) (station point (instant .ut) (instant .tt))
+place-at body point instant = place-from body (runner point) instant
 
 -- what every place keeps to
 pub record InTurns (place : Place) : Type 0 where

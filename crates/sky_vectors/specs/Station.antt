@@ -1,16 +1,12 @@
--- The runner's meridian (01, "From the centre to the runner"), at UT and TT.
-use lib.IntN.{_*ℤ_, _+ℤ_, pos, ℤ}
-use Rattle.sum_rules.specs.Nutation.{obliquity, Δψ}
-use Rattle.sum_rules.specs.Sidereal.{apparent}
+-- Where a runner stands (01, "From the centre to the runner").
+use lib.IntN.{_*ℤ_, pos}
+use Rattle.sky_vectors.specs.Observer.{observer}
+use Rattle.sky_vectors.specs.Product.{sine-cosine}
 use Rattle.sky_vectors.specs.declared.station.Point.{Point}
-use Rattle.sky_vectors.specs.declared.station.Station.{Station}
+use Rattle.sky_vectors.specs.declared.station.Runner.{Runner}
 
--- the point's longitude and latitude φ are ten times the given numbers; θ = sidereal + longitude
-unfoldable pub station : Point → ℤ → ℤ → Station
-station point ut tt =
-    record {
-      sidereal = apparent ut (Δψ tt) (obliquity tt) +ℤ pos 10 *ℤ point .longitude;
-      obliquity = obliquity tt;
-      latitude = pos 10 *ℤ point .latitude;
-      height = point .height;
-    }
+-- the point's longitude and latitude φ are ten times the given numbers; the observer is at φ and the height
+unfoldable pub runner : Point → Runner
+runner point =
+    let φ = sine-cosine (pos 10 *ℤ point .latitude) in
+    record { longitude = pos 10 *ℤ point .longitude; latitude = φ; observer = observer φ (point .height) }

@@ -18,10 +18,11 @@ pub enum Body {
     Moon,
 }
 
-// The apparent longitude, the latitude and the parallax.
+// The apparent longitude, the latitude, the distance (the Moon's in metres, the Sun's in 10⁻¹⁰ AU) and the parallax.
 pub struct Geocentric {
     pub longitude: i64,
     pub latitude: i64,
+    pub distance: i64,
     pub parallax: i64,
 }
 
@@ -33,11 +34,12 @@ fn moon_geocentric(table: &[u32; 361], t: Powers, nutation: i64) -> Geocentric
     let moon = moon_at(table, t);
     let longitude = moon.longitude as i64 + nutation;
     let latitude = moon.latitude;
-    let metres = moon.metres as u64;
-    let parallax = floor_div(RADIUS as i64 * 1_000_000_000, metres);
+    let distance = moon.metres;
+    let parallax = floor_div(RADIUS as i64 * 1_000_000_000, distance as u64);
     Geocentric {
         longitude,
         latitude,
+        distance,
         parallax,
     }
 }
@@ -50,13 +52,15 @@ fn sun_geocentric(table: &[u32; 361], t: Powers, nutation: i64) -> Geocentric
     let earth = sun_at(table, t);
     let degrees = longitude_degrees(earth.longitude);
     let latitude = -latitude_degrees(earth.latitude);
-    let radius = earth.radius as u64;
+    let distance = earth.radius;
+    let radius = distance as u64;
     let aberration = floor_div(-5_691_610_000_000_000, radius);
     let parallax = floor_div(426_350_000_000_000, radius);
     let longitude = degrees + Angle::HALF as i64 + nutation + aberration;
     Geocentric {
         longitude,
         latitude,
+        distance,
         parallax,
     }
 }

@@ -1,6 +1,5 @@
 // Up, north and east, and the azimuth and the elevation that they make.
-use super::product::products_added;
-use super::product::products_subtracted;
+use super::rotation::rotated;
 use super::vector::Vector;
 use numbers::angle::Angle;
 use numbers::arctangent::arctangent;
@@ -10,8 +9,11 @@ ghost use mathlib.Core.Path.{_≡_};
 ghost use Prim.Native.Nat.{_≤_};
 ghost use lib.IntN.{natAbs};
 ghost use Rattle.number_rules.specs.Angle.{full-turn};
-ghost use Rattle.sky_vectors.specs.Horizon.{horizon, azimuth, lowered, clamped, elevation};
-ghost use Rattle.sky_vectors.specs.SkyRange.{OneAngle, Within, Seen};
+ghost use Rattle.sky_vectors.specs.Horizon.{horizon, azimuth, level, rising, lowered, clamped, elevation};
+ghost use Rattle.sky_vectors.specs.SkyRange.{OneAngle, SmallVector, SmallHorizon, vector-limit};
+
+// What up and level answer where both are zero.
+const ELEVATION_OF_ZEROS: i64 = 0;
 
 pub struct Horizon {
     pub up: i64,
@@ -21,17 +23,14 @@ pub struct Horizon {
 
 // At a latitude.
 pub fn horizon_at(latitude: SineCosine, v: Vector) -> Horizon
-    requires { ⌜ OneAngle latitude × Within 2_900_000_000 v ⌝ }
+    requires { ⌜ OneAngle latitude × SmallVector vector-limit v ⌝ }
     ensures { λ r. ⌜ r ≡ horizon latitude v ⌝ }
 {
-    let sine = latitude.sine;
-    let cosine = latitude.cosine;
-    let x = v.x;
     let east = v.y;
-    let z = v.z;
+    let turned = rotated(latitude, v.x, v.z);
     Horizon {
-        up: products_added(x, cosine, z, sine),
-        north: products_subtracted(z, cosine, x, sine),
+        up: turned.along,
+        north: turned.across,
         east,
     }
 }
@@ -43,6 +42,27 @@ pub fn azimuth(seen: Horizon) -> i64
     let east = seen.east;
     let angle = arctangent(east, north).units;
     angle as i64
+}
+
+// The length of north and east together.
+fn level(seen: Horizon) -> i64
+    requires { ⌜ SmallHorizon seen ⌝ }
+    ensures { λ r. ⌜ r ≡ level seen ⌝ }
+{
+    let north = seen.north;
+    let east = seen.east;
+    root((north * north) as u64 + (east * east) as u64) as i64
+}
+
+// The elevation keeps a rule of its own for two zeros, whatever the arctangent says of them.
+fn rising(up: i64, level: i64) -> i64
+    ensures { λ r. ⌜ r ≡ rising up level ⌝ }
+{
+    if up == 0 && level == 0 {
+        ELEVATION_OF_ZEROS
+    } else {
+        arctangent(up, level).units as i64
+    }
 }
 
 // Less a whole turn from 180 degrees up.
@@ -72,13 +92,9 @@ fn clamped(e: i64) -> i64
 }
 
 pub fn elevation(seen: Horizon) -> i64
-    requires { ⌜ Seen seen ⌝ }
+    requires { ⌜ SmallHorizon seen ⌝ }
     ensures { λ r. ⌜ r ≡ elevation seen ⌝ }
 {
     let up = seen.up;
-    let north = seen.north;
-    let east = seen.east;
-    let level = root((north * north) as u64 + (east * east) as u64);
-    let angle = arctangent(up, level as i64).units;
-    clamped(lowered(angle as i64))
+    clamped(lowered(rising(up, level(seen))))
 }

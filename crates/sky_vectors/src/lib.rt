@@ -2,7 +2,8 @@
 pub mod geocentric;
 pub mod horizon;
 pub mod observer;
+pub mod orientation;
 pub mod place;
-pub mod product;
+pub mod rotation;
 pub mod station;
 pub mod vector;

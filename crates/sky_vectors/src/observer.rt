@@ -9,7 +9,7 @@ ghost use Prim.Native.Nat.{_≤_};
 ghost use lib.IntN.{natAbs};
 ghost use Rattle.number_rules.specs.SineTable.{sines};
 ghost use Rattle.sky_vectors.specs.Observer.{observer, shifted};
-ghost use Rattle.sky_vectors.specs.SkyRange.{OneAngle, Within, Near};
+ghost use Rattle.sky_vectors.specs.SkyRange.{OneAngle, SmallVector, SmallObserver, highest-height, parallax-limit, vector-limit};
 
 // The Earth's radius at the equator, in metres.
 pub const RADIUS: u64 = 6_378_140;
@@ -25,7 +25,7 @@ pub struct Observer {
 
 // At a latitude, and at a height in metres.
 pub fn observer_at(table: &[u32; 361], latitude: SineCosine, height: i64) -> Observer
-    requires { ⌜ (now table ≡ sines) × OneAngle latitude × (natAbs height ≤ 9_000) ⌝ }
+    requires { ⌜ (now table ≡ sines) × OneAngle latitude × (natAbs height ≤ highest-height) ⌝ }
     ensures { λ r. ⌜ r ≡ observer latitude height ⌝ }
 {
     let sine = latitude.sine;
@@ -42,7 +42,7 @@ pub fn observer_at(table: &[u32; 361], latitude: SineCosine, height: i64) -> Obs
 
 // The vector less the parallax p times the observer's distances.
 pub fn shifted(p: i64, observer: Observer, v: Vector) -> Vector
-    requires { ⌜ (natAbs p ≤ 20_000_000) × Near observer × Within 2_900_000_000 v ⌝ }
+    requires { ⌜ (natAbs p ≤ parallax-limit) × SmallObserver observer × SmallVector vector-limit v ⌝ }
     ensures { λ r. ⌜ r ≡ shifted p observer v ⌝ }
 {
     let f = observer.f;

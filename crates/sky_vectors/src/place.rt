@@ -1,28 +1,32 @@
-// The place of a body seen from where the runner stands.
+// The direction and the place of a body, seen from where a runner stands.
+use super::geocentric::Body;
 use super::geocentric::Geocentric;
 use super::geocentric::geocentric_at;
-use super::horizon::Horizon;
 use super::horizon::azimuth;
 use super::horizon::elevation;
 use super::horizon::horizon_at;
-use super::observer::observer_at;
+use super::observer::Observer;
 use super::observer::shifted;
-use super::geocentric::Body;
+use super::orientation::Orientation;
+use super::orientation::orientation_at;
 use super::station::Point;
-use super::station::Station;
-use super::station::station_at;
+use super::station::Runner;
+use super::station::runner_at;
 use super::vector::Vector;
 use super::vector::equatorial;
 use super::vector::meridian;
 use super::vector::unit_vector;
+use numbers::sine::SineCosine;
 use numbers::sine::sine_cosine_in;
 use sum_rules::instant::Instant;
 use sums::instant::powers_at;
 use sums::nutation::nutation_at;
 ghost use mathlib.Core.Path.{_≡_};
+ghost use Prim.Native.Nat.{_≤_};
+ghost use lib.IntN.{natAbs};
 ghost use Rattle.number_rules.specs.SineTable.{sines};
-ghost use Rattle.sky_vectors.specs.Place.{from-centre, from-runner, place-of, place-at};
-ghost use Rattle.sky_vectors.specs.SkyRange.{Viewed, OnEarth, Reachable};
+ghost use Rattle.sky_vectors.specs.Place.{from-centre, from-surface, direction, place-towards, place-from, place-at};
+ghost use Rattle.sky_vectors.specs.SkyRange.{OneAngle, SmallVector, SmallObserver, Standing, OnEarth, Reachable, parallax-limit, direction-limit};
 
 pub struct Place {
     pub azimuth: i64,
@@ -30,14 +34,14 @@ pub struct Place {
 }
 
 // The vector from the Earth's centre, on the runner's meridian.
-fn from_centre(table: &[u32; 361], body: Geocentric, station: Station) -> Vector
+pub fn from_centre(table: &[u32; 361], body: Geocentric, orientation: Orientation) -> Vector
     requires { ⌜ now table ≡ sines ⌝ }
-    ensures { λ r. ⌜ r ≡ from-centre body station ⌝ }
+    ensures { λ r. ⌜ r ≡ from-centre body orientation ⌝ }
 {
     let longitude = body.longitude;
     let latitude = body.latitude;
-    let sidereal = station.sidereal;
-    let obliquity = station.obliquity;
+    let sidereal = orientation.sidereal;
+    let obliquity = orientation.obliquity;
     let l = sine_cosine_in(table, longitude);
     let t = sine_cosine_in(table, latitude);
     let theta = sine_cosine_in(table, sidereal);
@@ -45,29 +49,54 @@ fn from_centre(table: &[u32; 361], body: Geocentric, station: Station) -> Vector
     meridian(theta, equatorial(epsilon, unit_vector(l, t)))
 }
 
-// The same from where the runner stands: up, north and east.
-fn from_runner(table: &[u32; 361], body: Geocentric, station: Station) -> Horizon
-    requires { ⌜ (now table ≡ sines) × Viewed body station ⌝ }
-    ensures { λ r. ⌜ r ≡ from-runner body station ⌝ }
+// The same from where the observer stands.
+pub fn from_surface(
+    table: &[u32; 361],
+    body: Geocentric,
+    orientation: Orientation,
+    observer: Observer,
+) -> Vector
+    requires { ⌜ (now table ≡ sines) × (natAbs (body .parallax) ≤ parallax-limit) × SmallObserver observer ⌝ }
+    ensures { λ r. ⌜ r ≡ from-surface body orientation observer ⌝ }
 {
     let parallax = body.parallax;
-    let latitude = station.latitude;
-    let height = station.height;
-    let centre = from_centre(table, body, station);
-    let phi = sine_cosine_in(table, latitude);
-    let observer = observer_at(table, phi, height);
-    horizon_at(phi, shifted(parallax, observer, centre))
+    shifted(parallax, observer, from_centre(table, body, orientation))
 }
 
-pub fn place_of(table: &[u32; 361], body: Geocentric, station: Station) -> Place
-    requires { ⌜ (now table ≡ sines) × Viewed body station ⌝ }
-    ensures { λ r. ⌜ r ≡ place-of body station ⌝ }
+// The direction after parallax, at an instant.
+pub fn direction_at(table: &[u32; 361], body: Body, runner: Runner, instant: Instant) -> Vector
+    requires { ⌜ (now table ≡ sines) × (Standing runner × Reachable instant) ⌝ }
+    ensures { λ r. ⌜ r ≡ direction body runner instant ⌝ }
 {
-    let seen = from_runner(table, body, station);
+    let longitude = runner.longitude;
+    let observer = runner.observer;
+    let ut = powers_at(instant.ut);
+    let tt = powers_at(instant.tt);
+    let nutation = nutation_at(table, tt);
+    let centre = geocentric_at(table, body, tt, nutation.longitude);
+    let orientation = orientation_at(table, longitude, ut, tt, nutation);
+    from_surface(table, centre, orientation, observer)
+}
+
+// Where a direction points to, at a latitude.
+pub fn place_towards(latitude: SineCosine, direction: Vector) -> Place
+    requires { ⌜ OneAngle latitude × SmallVector direction-limit direction ⌝ }
+    ensures { λ r. ⌜ r ≡ place-towards latitude direction ⌝ }
+{
+    let seen = horizon_at(latitude, direction);
     Place {
         azimuth: azimuth(seen),
         elevation: elevation(seen),
     }
+}
+
+// For a runner who is worked out once and stands for many instants.
+pub fn place_from(table: &[u32; 361], body: Body, runner: Runner, instant: Instant) -> Place
+    requires { ⌜ (now table ≡ sines) × (Standing runner × Reachable instant) ⌝ }
+    ensures { λ r. ⌜ r ≡ place-from body runner instant ⌝ }
+{
+    let latitude = runner.latitude;
+    place_towards(latitude, direction_at(table, body, runner, instant))
 }
 
 // At an instant, from a point on Earth.
@@ -75,10 +104,5 @@ pub fn place_at(table: &[u32; 361], body: Body, point: Point, instant: Instant) 
     requires { ⌜ (now table ≡ sines) × (OnEarth point × Reachable instant) ⌝ }
     ensures { λ r. ⌜ r ≡ place-at body point instant ⌝ }
 {
-    let ut = powers_at(instant.ut);
-    let tt = powers_at(instant.tt);
-    let nutation = nutation_at(table, tt);
-    let centre = geocentric_at(table, body, tt, nutation.longitude);
-    let station = station_at(table, point, ut, tt, nutation);
-    place_of(table, centre, station)
+    place_from(table, body, runner_at(table, point), instant)
 }

@@ -1,14 +1,21 @@
-// Where the runner stands, and how the sky is turned there.
-use sum_rules::instant::Powers;
-use sums::nutation::Nutation;
-use sums::nutation::obliquity_at;
-use sums::sidereal::apparent_at;
+// Points on Earth, and where a runner stands at one.
+use super::observer::Observer;
+use super::observer::observer_at;
+use numbers::sine::SineCosine;
+use numbers::sine::sine_cosine_in;
 ghost use mathlib.Core.Path.{_≡_};
 ghost use Rattle.number_rules.specs.SineTable.{sines};
-ghost use Rattle.sum_rules.specs.Instant.{Reached};
-ghost use Rattle.sum_rules.specs.Nutation.{Δψ, Δε};
 ghost use Rattle.sky_vectors.specs.SkyRange.{OnEarth};
-ghost use Rattle.sky_vectors.specs.Station.{station};
+ghost use Rattle.sky_vectors.specs.Station.{runner};
+
+// What 7 to 9 let pass: longitude and latitude either way of zero, and heights from the lowest to the highest.
+pub const LONGITUDE_LIMIT: i64 = 1_800_000_000;
+
+pub const LATITUDE_LIMIT: i64 = 900_000_000;
+
+pub const LOWEST_HEIGHT: i64 = -500;
+
+pub const HIGHEST_HEIGHT: i64 = 9_000;
 
 // Longitude east-positive and latitude in 10⁻⁷ degree, height in metres.
 #[repr(C)]
@@ -18,35 +25,23 @@ pub struct Point {
     pub height: i64,
 }
 
-// The sidereal angle θ there, the obliquity, the latitude φ, and the height in metres.
-pub struct Station {
-    pub sidereal: i64,
-    pub obliquity: i64,
-    pub latitude: i64,
-    pub height: i64,
+// What a point has in common for every instant: the longitude in 10⁻⁸ degree, the sine and the cosine of the latitude φ, and the observer there.
+pub struct Runner {
+    pub longitude: i64,
+    pub latitude: SineCosine,
+    pub observer: Observer,
 }
 
-// The Earth turns by UT and nods by TT.
-pub fn station_at(
-    table: &[u32; 361],
-    point: Point,
-    ut: Powers,
-    tt: Powers,
-    nutation: Nutation,
-) -> Station
-    requires { ⌜
-        (now table ≡ sines) × (OnEarth point × (Reached ut × (Reached tt × ((nutation .longitude ≡ Δψ (tt .n)) × (nutation .obliquity ≡ Δε (tt .n)))))) ⌝ }
-    ensures { λ r. ⌜ r ≡ station point (ut .n) (tt .n) ⌝ }
+pub fn runner_at(table: &[u32; 361], point: Point) -> Runner
+    requires { ⌜ (now table ≡ sines) × OnEarth point ⌝ }
+    ensures { λ r. ⌜ r ≡ runner point ⌝ }
 {
-    let obliquity = obliquity_at(tt, nutation.obliquity);
-    let greenwich = apparent_at(table, ut, nutation.longitude, obliquity);
-    let sidereal = greenwich + 10 * point.longitude;
-    let latitude = 10 * point.latitude;
-    let height = point.height;
-    Station {
-        sidereal,
-        obliquity,
+    let longitude = 10 * point.longitude;
+    let latitude = sine_cosine_in(table, 10 * point.latitude);
+    let observer = observer_at(table, latitude, point.height);
+    Runner {
+        longitude,
         latitude,
-        height,
+        observer,
     }
 }

@@ -1,11 +1,10 @@
 // A body's direction as a vector, and its rotations.
-use super::product::products_added;
-use super::product::products_subtracted;
+use super::rotation::rotated;
 use numbers::sine::SineCosine;
 use numbers::whole::floor_div;
 ghost use mathlib.Core.Path.{_≡_};
 ghost use Rattle.sky_vectors.specs.Vector.{unit-vector, equatorial, meridian};
-ghost use Rattle.sky_vectors.specs.SkyRange.{OneAngle, Within};
+ghost use Rattle.sky_vectors.specs.SkyRange.{OneAngle, SmallVector, vector-limit};
 
 pub struct Vector {
     pub x: i64,
@@ -29,34 +28,28 @@ pub fn unit_vector(l: SineCosine, t: SineCosine) -> Vector
 
 // From the ecliptic to the equator, by the obliquity.
 pub fn equatorial(obliquity: SineCosine, v: Vector) -> Vector
-    requires { ⌜ OneAngle obliquity × Within 2_000_000_000 v ⌝ }
+    requires { ⌜ OneAngle obliquity × SmallVector vector-limit v ⌝ }
     ensures { λ r. ⌜ r ≡ equatorial obliquity v ⌝ }
 {
-    let sine = obliquity.sine;
-    let cosine = obliquity.cosine;
     let x = v.x;
-    let y = v.y;
-    let z = v.z;
+    let turned = rotated(obliquity, v.z, v.y);
     Vector {
         x,
-        y: products_subtracted(y, cosine, z, sine),
-        z: products_added(y, sine, z, cosine),
+        y: turned.across,
+        z: turned.along,
     }
 }
 
 // From the equinox to the runner's meridian, by the sidereal angle there.
 pub fn meridian(sidereal: SineCosine, v: Vector) -> Vector
-    requires { ⌜ OneAngle sidereal × Within 2_000_000_000 v ⌝ }
+    requires { ⌜ OneAngle sidereal × SmallVector vector-limit v ⌝ }
     ensures { λ r. ⌜ r ≡ meridian sidereal v ⌝ }
 {
-    let sine = sidereal.sine;
-    let cosine = sidereal.cosine;
-    let x = v.x;
-    let y = v.y;
     let z = v.z;
+    let turned = rotated(sidereal, v.x, v.y);
     Vector {
-        x: products_added(x, cosine, y, sine),
-        y: products_subtracted(y, cosine, x, sine),
+        x: turned.along,
+        y: turned.across,
         z,
     }
 }

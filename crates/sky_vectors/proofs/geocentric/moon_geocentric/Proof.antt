@@ -54,6 +54,10 @@ module _ (c : tie.After-moon-at) where
   far : pos 350_000_000 ≤ℤ Moon.metres n
   far = metres-least n near
 
+-- the state in which the Moon's place became known
+abbrev summed : tie.After-struct-told2 → tie.After-moon-at
+summed c = c .before .before .before
+
 moon-at-requires : tie.Need-moon-at-requires
 moon-at-requires c κs = search needs
 
@@ -63,31 +67,29 @@ cast-longitude c = nat-fits (longitude-small (c .before)) tt
 add-longitude : tie.Need-add-longitude
 add-longitude c = fits (longitude (c .before)) tt
 
-cast-metres : tie.Need-cast-metres
-cast-metres c =
-    let e = c .before .before .before .before in
-    cast-up (metres-fits e) (subst⁻¹ (λ (z : ℤ). pos 350_000_000 ≤ℤ z) (e .moon-at .ensures .1 .1 .0) (far e))
-
 cast-floor-div : tie.Need-cast-floor-div
 cast-floor-div c = search needs
 
 mul-floor-div : tie.Need-mul-floor-div
 mul-floor-div c = search needs
 
+cast-floor-div-2 : tie.Need-cast-floor-div-2
+cast-floor-div-2 c =
+    let k = summed c in
+    cast-up (metres-fits k) (subst⁻¹ (λ (z : ℤ). pos 350_000_000 ≤ℤ z) (k .moon-at .ensures .1 .1 .0) (far k))
+
 floor-div-requires : tie.Need-floor-div-requires
-floor-div-requires c κs =
-    let e = c .before .before .before .before in
-    subst⁻¹ (λ (z : ℤ). 0 < natAbs z) (metres-is e) (omega (arith, at-least (far e)))
+floor-div-requires c κs = let k = summed c in subst⁻¹ (λ (z : ℤ). 0 < natAbs z) (metres-is k) (omega (arith, at-least (far k)))
 
 returns : tie.Need-returns
 unfolding moon-geocentric
 returns c =
-    let e = c .before .before .before .before .before in
-    let l = kept (longitude e) tt .same ∙ (λ i. pos (e .moon-at .ensures .0 i) +ℤ s e .pre .1 .1 i) in
-    let b = toZ-ofZ w64 (e .moon-at .result .latitude) (latitude-fits e) ∙ e .moon-at .ensures .1 .0 in
-    let p = passed (c .floor-div .ok) (c .floor-div .ensures ∙ (λ i. ⌊ pos (radius * 1_000_000_000) ÷ natAbs (metres-is e i) ⌋)) in
-    λ i. record { longitude = l i; latitude = b i; parallax = p i }
+    let k = summed (c .before) in
+    let l = kept (longitude k) tt .same ∙ (λ i. pos (k .moon-at .ensures .0 i) +ℤ s k .pre .1 .1 i) in
+    let b = toZ-ofZ w64 (k .moon-at .result .latitude) (latitude-fits k) ∙ k .moon-at .ensures .1 .0 in
+    let p = passed (c .floor-div .ok) (c .floor-div .ensures ∙ (λ i. ⌊ pos (radius * 1_000_000_000) ÷ natAbs (metres-is k i) ⌋)) in
+    λ i. record { longitude = l i; latitude = b i; distance = metres-is k i; parallax = p i }
 
 pub moon-geocentric-spec : {M : Type 1} → statement M
 moon-geocentric-spec =
-    tie.close (tie.spec moon-at-requires cast-longitude add-longitude cast-metres cast-floor-div mul-floor-div floor-div-requires returns)
+    tie.close (tie.spec moon-at-requires cast-longitude add-longitude cast-floor-div mul-floor-div cast-floor-div-2 floor-div-requires returns)

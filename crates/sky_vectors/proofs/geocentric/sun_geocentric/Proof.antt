@@ -54,35 +54,52 @@ module _ (c : tie.After-sun-at) where
   radius-above = subst⁻¹ (λ (z : ℤ). 0 < natAbs z) radius-is (omega (arith, at-least far))
 
 module _ (c : tie.After-longitude-degrees) where
-  abbrev e₁ : tie.After-sun-at
-  e₁ = c .before .before
+  abbrev summed₁ : tie.After-sun-at
+  summed₁ = c .before .before
 
   abbrev degrees : Mirror
   degrees =
-      gave (c .longitude-degrees .ok) (c .longitude-degrees .ensures ∙ ap longitude-degrees (toZ-ofZ w64 (e₁ .sun-at .result .longitude) (longitude-fits e₁) ∙ e₁ .sun-at .ensures .0))
-      (longitude-degrees-most (Sun.L (n e₁)))
+      gave (c .longitude-degrees .ok)
+      (c .longitude-degrees .ensures
+      ∙ ap longitude-degrees (toZ-ofZ w64 (summed₁ .sun-at .result .longitude) (longitude-fits summed₁) ∙ summed₁ .sun-at .ensures .0))
+      (longitude-degrees-most (Sun.L (n summed₁)))
 
 module _ (c : tie.After-latitude-degrees) where
-  abbrev e₂ : tie.After-sun-at
-  e₂ = c .before .before .before .before
+  abbrev turned : tie.After-longitude-degrees
+  turned = c .before .before
+
+  abbrev summed₂ : tie.After-sun-at
+  summed₂ = summed₁ turned
 
   abbrev negated : Mirror
   negated =
-      minus (gave (c .latitude-degrees .ok) (c .latitude-degrees .ensures ∙ ap latitude-degrees (latitude e₂ .same)) (latitude-degrees-most (Sun.B (n e₂)) (B-most (n e₂) (near e₂))))
+      minus
+      (gave (c .latitude-degrees .ok) (c .latitude-degrees .ensures ∙ ap latitude-degrees (latitude summed₂ .same))
+      (latitude-degrees-most (Sun.B (n summed₂)) (B-most (n summed₂) (near summed₂))))
+
+abbrev summed₃ : tie.After-struct-told3 → tie.After-sun-at
+summed₃ c = summed₂ (c .before)
 
 module _ (c : tie.After-floor-div2) where
-  abbrev e₃ : tie.After-sun-at
-  e₃ = c .before .before .before .before .before .before .before .before
+  abbrev aberrated : tie.After-floor-div
+  aberrated = c .before
+
+  abbrev lowered : tie.After-latitude-degrees
+  lowered = aberrated .before .before
+
+  abbrev summed : tie.After-sun-at
+  summed = summed₂ lowered
 
   abbrev aberration : Mirror
   aberration =
-      small-floor-gave (lit (negℤ (pos 5_691_610_000_000_000))) (natAbs (toZ w64 (ofZ w64 (e₃ .sun-at .result .radius)))) (c .before .floor-div .ok) (c .before .floor-div .ensures)
+      small-floor-gave (lit (negℤ (pos 5_691_610_000_000_000))) (natAbs (toZ w64 (ofZ w64 (summed .sun-at .result .radius))))
+      (aberrated .floor-div .ok) (aberrated .floor-div .ensures)
 
   abbrev opposite : Mirror
-  opposite = degrees (c .before .before .before .before .before .before) ⊕ lit (pos half-turn)
+  opposite = degrees (turned lowered) ⊕ lit (pos half-turn)
 
   abbrev nodding : Mirror
-  nodding = kept opposite tt ⊕ nutation e₃
+  nodding = kept opposite tt ⊕ nutation summed
 
   abbrev longitude : Mirror
   longitude = kept nodding tt ⊕ aberration
@@ -94,21 +111,21 @@ longitude-degrees-requires : tie.Need-longitude-degrees-requires
 longitude-degrees-requires c κs = search needs
 
 latitude-degrees-requires : tie.Need-latitude-degrees-requires
-latitude-degrees-requires c κs = asked (latitude (c .before .before .before)) tt
+latitude-degrees-requires c κs = asked (latitude (summed₁ (c .before))) tt
 
 sub-latitude : tie.Need-sub-latitude
 sub-latitude c = fits (negated c) tt
 
 cast-radius : tie.Need-cast-radius
 cast-radius c =
-    let e = c .before .before .before .before .before .before in
-    cast-up (radius-fits e) (subst⁻¹ (λ (z : ℤ). pos 9_800_000_000 ≤ℤ z) (e .sun-at .ensures .1 .1 .0) (far e))
+    let k = summed₃ c in
+    cast-up (radius-fits k) (subst⁻¹ (λ (z : ℤ). pos 9_800_000_000 ≤ℤ z) (k .sun-at .ensures .1 .1 .0) (far k))
 
 floor-div-requires : tie.Need-floor-div-requires
-floor-div-requires c κs = radius-above (c .before .before .before .before .before .before)
+floor-div-requires c κs = radius-above (summed₃ c)
 
 floor-div-requires-2 : tie.Need-floor-div-requires-2
-floor-div-requires-2 c κs = radius-above (c .before .before .before .before .before .before .before)
+floor-div-requires-2 c κs = radius-above (summed₃ (c .before))
 
 cast-longitude : tie.Need-cast-longitude
 cast-longitude c = search needs
@@ -125,14 +142,26 @@ add-longitude-3 c = fits (longitude c) tt
 returns : tie.Need-returns
 unfolding sun-geocentric
 returns c =
-    let e = e₃ c in
-    let sum : ℤ → ℤ → ℤ = λ (a r : ℤ). longitude-degrees (Sun.L (n e)) +ℤ pos half-turn +ℤ a +ℤ ⌊ negℤ (pos 5_691_610_000_000_000) ÷ natAbs r ⌋ in
-    let l = kept (longitude c) tt .same ∙ (λ i. sum (s e .pre .1 .1 i) (radius-is e i)) in
-    let b = kept (negated (c .before .before .before .before)) tt .same in
-    let p = passed (c .floor-div2 .ok) (c .floor-div2 .ensures ∙ (λ i. ⌊ pos 426_350_000_000_000 ÷ natAbs (radius-is e i) ⌋)) in
-    λ i. record { longitude = l i; latitude = b i; parallax = p i }
+    let k = summed c in
+    let sum : ℤ → ℤ → ℤ = λ (a r : ℤ). longitude-degrees (Sun.L (n k)) +ℤ pos half-turn +ℤ a +ℤ ⌊ negℤ (pos 5_691_610_000_000_000) ÷ natAbs r ⌋ in
+    let l = kept (longitude c) tt .same ∙ (λ i. sum (s k .pre .1 .1 i) (radius-is k i)) in
+    let b = kept (negated (lowered c)) tt .same in
+    let p = passed (c .floor-div2 .ok) (c .floor-div2 .ensures ∙ (λ i. ⌊ pos 426_350_000_000_000 ÷ natAbs (radius-is k i) ⌋)) in
+    λ i. record { longitude = l i; latitude = b i; distance = radius-is k i; parallax = p i }
 
 pub sun-geocentric-spec : {M : Type 1} → statement M
 sun-geocentric-spec =
     tie.close
-    (tie.spec sun-at-requires longitude-degrees-requires latitude-degrees-requires sub-latitude cast-radius floor-div-requires floor-div-requires-2 cast-longitude add-longitude add-longitude-2 add-longitude-3 returns)
+    (tie.spec
+    sun-at-requires
+    longitude-degrees-requires
+    latitude-degrees-requires
+    sub-latitude
+    cast-radius
+    floor-div-requires
+    floor-div-requires-2
+    cast-longitude
+    add-longitude
+    add-longitude-2
+    add-longitude-3
+    returns)

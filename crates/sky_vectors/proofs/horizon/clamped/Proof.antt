@@ -1,4 +1,4 @@
--- `sky::horizon::clamped` meets its contract.
+-- `horizon::clamped` meets its contract.
 use mathlib.Core.Bool.{false, true}
 use mathlib.Core.Path.{_≡_, subst}
 use lib.IntN.{negℤ, pos, ℤ}

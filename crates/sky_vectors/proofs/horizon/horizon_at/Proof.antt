@@ -1,44 +1,30 @@
--- `sky::horizon::horizon_at` meets its contract.
-use Rattle.numbers.proofs.Machine.{Mirror}
+-- `horizon::horizon_at` meets its contract.
+use borrow.Author.Needs.{needs}
 use Rattle.sky_vectors.specs.Horizon.{horizon}
-use Rattle.sky_vectors.proofs.SkyMirror.{cosine-in, gave-added, gave-subtracted, products, sine-in, x-in, y-in, z-in}
+use Rattle.sky_vectors.specs.Rotation.{rotated}
+use Rattle.sky_vectors.proofs.RotationLaws.{gave-across, gave-along}
+use Rattle.sky_vectors.proofs.SkyMirror.{y-in}
 use Rattle.sky_vectors.proofs.horizon.horizon_at.Statement.{statement}
 use Rattle.sky_vectors.proofs.horizon.horizon_at.Tie as tie
 
-module _ (a : tie.Start) where
-  abbrev s : Mirror
-  s = sine-in (a .pre .0)
+abbrev start : tie.After-rotated → tie.Start
+start k = k .before .before .before .before
 
-  abbrev c : Mirror
-  c = cosine-in (a .pre .0)
-
-  abbrev x : Mirror
-  x = x-in (a .pre .1) tt
-
-  abbrev y : Mirror
-  y = y-in (a .pre .1) tt
-
-  abbrev z : Mirror
-  z = z-in (a .pre .1) tt
-
-abbrev start : tie.After-struct-told5 → tie.Start
-start k = k .before .before .before .before .before
-
-products-added-requires : tie.Need-products-added-requires
-products-added-requires k κs = let a = start k in products (x a) (c a) (z a) (s a) tt
-
-products-subtracted-requires : tie.Need-products-subtracted-requires
-products-subtracted-requires k κs = let a = start (k .before) in products (z a) (c a) (x a) (s a) tt
+rotated-requires : tie.Need-rotated-requires
+rotated-requires c κs = search needs
 
 returns : tie.Need-returns
-unfolding horizon
-returns k =
-    let a = start (k .before .before) in
+unfolding horizon rotated
+returns c =
+    let k = c .before in
+    let φ = start k .args .latitude in
+    let v = start k .args .v in
+    let small = start k .pre .1 in
     λ i. record {
-      up = gave-added (x a) (c a) (z a) (s a) (k .before .products-added .ok) (k .before .products-added .ensures) i;
-      north = gave-subtracted (z a) (c a) (x a) (s a) (k .products-subtracted .ok) (k .products-subtracted .ensures) i;
-      east = y a .same i;
+      up = gave-along φ (v .x) (v .z) (start k .pre .0) (small .x-size) (small .z-size) (k .rotated .ensures) i;
+      north = gave-across φ (v .x) (v .z) (start k .pre .0) (small .x-size) (small .z-size) (k .rotated .ensures) i;
+      east = y-in small tt .same i;
     }
 
 pub horizon-at-spec : {M : Type 1} → statement M
-horizon-at-spec = tie.close (tie.spec products-added-requires products-subtracted-requires returns)
+horizon-at-spec = tie.close (tie.spec rotated-requires returns)

@@ -1,4 +1,4 @@
--- `sky::horizon::lowered` meets its contract.
+-- `horizon::lowered` meets its contract.
 use mathlib.Core.Bool.{false, true}
 use mathlib.Core.Path.{_≡_, subst}
 use lib.IntN.{pos, ℤ}

@@ -1,4 +1,4 @@
--- `sky::observer::observer_at` meets its contract. Each local is mirrored once, at the place where it is known.
+-- `observer::observer_at` meets its contract. Each local is mirrored once, at the place where it is known.
 use mathlib.Core.Path.{_∙_, _≡_, ap}
 use borrow.Author.Needs.{needs}
 use Rattle.number_rules.specs.Sine.{cosine, sine}

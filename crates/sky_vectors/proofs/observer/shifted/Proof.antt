@@ -1,4 +1,4 @@
--- `sky::observer::shifted` meets its contract.
+-- `observer::shifted` meets its contract.
 use borrow.Author.Needs.{needs}
 use Rattle.numbers.proofs.Machine.{Mirror, _⊖_, _⊗_, arg, fits, floor-gave, kept}
 use Rattle.sky_vectors.specs.Observer.{shifted}

@@ -1,12 +1,12 @@
--- `sky::place::from_centre` meets its contract: each call's equation, put into the next.
+-- `place::from_centre` meets its contract: each call's equation, put into the next.
 use mathlib.Core.Path.{_∙_, ap, ap₂, refl, subst⁻¹}
 use borrow.Author.Needs.{needs}
 use Rattle.numbers.proofs.Machine.{passed}
 use Rattle.sky_vectors.specs.Place.{from-centre}
 use Rattle.sky_vectors.specs.Product.{sine-cosine}
-use Rattle.sky_vectors.specs.SkyRange.{Within}
+use Rattle.sky_vectors.specs.SkyRange.{SmallVector}
 use Rattle.sky_vectors.specs.Vector.{equatorial, meridian, unit-vector}
-use Rattle.sky_vectors.proofs.SkySizes.{equatorial-within, gave-one-angle, gave-sine-cosine, unit-within, widen}
+use Rattle.sky_vectors.proofs.SkySizes.{equatorial-small, gave-one-angle, gave-sine-cosine, unit-small, widen}
 use Rattle.sky_vectors.proofs.place.from_centre.Statement.{statement}
 use Rattle.sky_vectors.proofs.place.from_centre.Tie as tie
 
@@ -25,20 +25,20 @@ sine-cosine-in-requires-4 c κs = search needs
 unit-vector-requires : tie.Need-unit-vector-requires
 unit-vector-requires c κs = (gave-one-angle _ (c .before .before .before .sine-cosine-in .ensures), gave-one-angle _ (c .before .before .sine-cosine-in2 .ensures))
 
-unit-small : (c : tie.After-unit-vector) → Within 1_001_000_000 (c .unit-vector .result)
-unit-small c =
+unit-is-small : (c : tie.After-unit-vector) → SmallVector 1_001_000_000 (c .unit-vector .result)
+unit-is-small c =
     let k = unit-vector-requires (c .before) tt in
-    subst⁻¹ (Within 1_001_000_000) (c .unit-vector .ensures) (unit-within (k .0) (k .1))
+    subst⁻¹ (SmallVector 1_001_000_000) (c .unit-vector .ensures) (unit-small (k .0) (k .1))
 
 equatorial-requires : tie.Need-equatorial-requires
-equatorial-requires c κs = (gave-one-angle _ (c .before .sine-cosine-in4 .ensures), widen tt (unit-small c))
+equatorial-requires c κs = (gave-one-angle _ (c .before .sine-cosine-in4 .ensures), widen tt (unit-is-small c))
 
 meridian-requires : tie.Need-meridian-requires
 meridian-requires c κs =
     let k = c .before .before in (
       gave-one-angle _ (k .before .sine-cosine-in3 .ensures),
       widen tt
-          (subst⁻¹ (Within 1_425_000_000) (c .equatorial .ensures) (equatorial-within (gave-one-angle _ (k .sine-cosine-in4 .ensures)) (unit-small (c .before)))),
+          (subst⁻¹ (SmallVector 1_425_000_000) (c .equatorial .ensures) (equatorial-small (gave-one-angle _ (k .sine-cosine-in4 .ensures)) (unit-is-small (c .before)))),
     )
 
 returns : tie.Need-returns

@@ -1,4 +1,4 @@
--- `sky::vector::unit_vector` meets its contract.
+-- `vector::unit_vector` meets its contract.
 use borrow.Author.Needs.{needs}
 use Rattle.numbers.proofs.Machine.{Mirror, _⊗_, fits, floor-gave, kept}
 use Rattle.sky_vectors.specs.Product.{_·_}

@@ -1,0 +1,9 @@
+-- How the sky is turned at a runner's longitude (01, "From the centre to the runner"), at UT and TT.
+use lib.IntN.{_+ℤ_, ℤ}
+use Rattle.sum_rules.specs.Nutation.{obliquity, Δψ}
+use Rattle.sum_rules.specs.Sidereal.{apparent}
+use Rattle.sky_vectors.specs.declared.orientation.Orientation.{Orientation}
+
+-- θ = sidereal + longitude, and ε
+unfoldable pub orientation : ℤ → ℤ → ℤ → Orientation
+orientation longitude ut tt = record { sidereal = apparent ut (Δψ tt) (obliquity tt) +ℤ longitude; obliquity = obliquity tt }

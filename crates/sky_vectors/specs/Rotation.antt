@@ -1,0 +1,9 @@
+-- A pair of numbers turned by one angle: what 01's three rotations have in common.
+use lib.IntN.{_+ℤ_, _-ℤ_, ℤ}
+use Rattle.numbers.specs.declared.sine.SineCosine.{SineCosine}
+use Rattle.sky_vectors.specs.Product.{_·_}
+use Rattle.sky_vectors.specs.declared.rotation.Pair.{Pair}
+
+-- along = x cos + y sin, across = y cos - x sin
+unfoldable pub rotated : SineCosine → ℤ → ℤ → Pair
+rotated t x y = record { along = x · t .cosine +ℤ y · t .sine; across = y · t .cosine -ℤ x · t .sine }

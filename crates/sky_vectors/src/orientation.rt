@@ -1,0 +1,40 @@
+// How the sky is turned at a runner's longitude.
+use sum_rules::instant::Powers;
+use sums::nutation::Nutation;
+use sums::nutation::obliquity_at;
+use sums::sidereal::apparent_at;
+ghost use mathlib.Core.Path.{_≡_};
+ghost use Prim.Native.Nat.{_≤_};
+ghost use lib.IntN.{natAbs};
+ghost use Rattle.number_rules.specs.Angle.{half-turn};
+ghost use Rattle.number_rules.specs.SineTable.{sines};
+ghost use Rattle.sum_rules.specs.Instant.{Reached};
+ghost use Rattle.sum_rules.specs.Nutation.{Δψ, Δε};
+ghost use Rattle.sky_vectors.specs.Orientation.{orientation};
+
+// The sidereal angle θ there, and the obliquity ε.
+pub struct Orientation {
+    pub sidereal: i64,
+    pub obliquity: i64,
+}
+
+// The Earth turns by UT and nods by TT.
+pub fn orientation_at(
+    table: &[u32; 361],
+    longitude: i64,
+    ut: Powers,
+    tt: Powers,
+    nutation: Nutation,
+) -> Orientation
+    requires { ⌜ (now table ≡ sines) × (natAbs longitude ≤ half-turn) ⌝ }
+    requires { ⌜ (Reached ut × Reached tt) × ((nutation .longitude ≡ Δψ (tt .n)) × (nutation .obliquity ≡ Δε (tt .n))) ⌝ }
+    ensures { λ r. ⌜ r ≡ orientation longitude (ut .n) (tt .n) ⌝ }
+{
+    let obliquity = obliquity_at(tt, nutation.obliquity);
+    let greenwich = apparent_at(table, ut, nutation.longitude, obliquity);
+    let sidereal = greenwich + longitude;
+    Orientation {
+        sidereal,
+        obliquity,
+    }
+}
