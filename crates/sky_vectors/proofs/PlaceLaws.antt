@@ -10,7 +10,7 @@ use Rattle.numbers.proofs.Machine.{lit, not-less}
 use Rattle.number_rules.specs.Angle.{quarter-turn}
 use Rattle.numbers.specs.declared.sine.SineCosine.{SineCosine}
 use Rattle.sky_vectors.proofs.SkyMirror.{arctangent-most}
-use Rattle.sky_vectors.specs.Horizon.{azimuth, clamped, elevation, horizon, level, lowered, rising}
+use Rattle.sky_vectors.specs.Horizon.{azimuth, clamped, elevation, horizon, level, lowered, slope}
 use Rattle.sky_vectors.specs.Place.{InTurns, direction, place-at, place-from, place-towards}
 use Rattle.sky_vectors.specs.Station.{runner}
 use Rattle.sky_vectors.specs.declared.geocentric.Body.{Body}
@@ -40,7 +40,7 @@ pub place-towards-in-turns : (φ : SineCosine) (v : Vector) → InTurns (place-t
 unfolding place-towards azimuth elevation
 place-towards-in-turns φ v =
     let h = horizon φ v in
-    record { azimuth-size = arctangent-most (h .east) (h .north); elevation-size = clamped-most (lowered (rising (h .up) (level h))) }
+    record { azimuth-size = arctangent-most (h .east) (h .north); elevation-size = clamped-most (lowered (slope (h .up) (level h))) }
 
 pub place-from-in-turns : (body : Body) (runner : Runner) (instant : Instant) → InTurns (place-from body runner instant)
 unfolding place-from

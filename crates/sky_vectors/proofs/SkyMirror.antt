@@ -16,7 +16,7 @@ use Rattle.numbers.specs.Arctangent.{arctangent}
 use Rattle.numbers.specs.declared.sine.SineCosine.{SineCosine}
 use Rattle.numbers.proofs.ArctangentLaws.{arctangent-below}
 use Rattle.numbers.proofs.Machine.{Mirror, nat-fits, told}
-use Rattle.sky_vectors.specs.Horizon.{elevation-of-zeros, rising}
+use Rattle.sky_vectors.specs.Horizon.{elevation-of-zeros, slope}
 use Rattle.sky_vectors.specs.SkyRange.{OneAngle, SmallVector}
 use Rattle.sky_vectors.specs.declared.vector.Vector.{Vector}
 
@@ -56,9 +56,9 @@ angle-gave {r} y x e =
       bound = arctangent-most (y .number) (x .number);
     }
 
-pub rising-most : (up level : ℤ) → natAbs (rising up level) ≤ full-turn
-unfolding rising
-rising-most up level = go (eqb (natAbs up + natAbs level) 0)
+pub slope-most : (up level : ℤ) → natAbs (slope up level) ≤ full-turn
+unfolding slope
+slope-most up level = go (eqb (natAbs up + natAbs level) 0)
   where
     go : (b : Bool) → natAbs (cond b elevation-of-zeros (pos (arctangent up level))) ≤ full-turn
     go true = lit≤ tt

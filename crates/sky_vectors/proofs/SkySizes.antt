@@ -1,4 +1,5 @@
--- How large the numbers grow, from the unit vector to the horizon.
+-- How large the numbers grow, from the unit vector to the horizon: each rotation lets a bound grow to 1.423 times itself (`RotationLaws`), and the
+-- parallax adds little.
 use mathlib.Core.Path.{_≡_, subst, subst⁻¹}
 use Prim.Native.Nat.{_≤_, ℕ}
 use native.Mathlib.Nat.{le-refl, le-trans}
@@ -45,67 +46,70 @@ gave-one-angle x e = subst⁻¹ OneAngle (gave-sine-cosine x e) (one-angle x)
 -- ---- the chain
 pub unit-small : {l t : SineCosine} → OneAngle l → OneAngle t → SmallVector 1_001_000_000 (unit-vector l t)
 unfolding unit-vector
-unit-small {l} {t} p q =
+unit-small {l} {t} by-l by-t =
     record {
-      x-size = le-trans (product-most (t .cosine) (l .cosine) (q .cosine-size) (p .cosine-size)) (lit≤ tt);
-      y-size = le-trans (product-most (t .cosine) (l .sine) (q .cosine-size) (p .sine-size)) (lit≤ tt);
-      z-size = le-trans (q .sine-size) (lit≤ tt);
+      x-size = le-trans (product-most (t .cosine) (l .cosine) (by-t .cosine-size) (by-l .cosine-size)) (lit≤ tt);
+      y-size = le-trans (product-most (t .cosine) (l .sine) (by-t .cosine-size) (by-l .sine-size)) (lit≤ tt);
+      z-size = le-trans (by-t .sine-size) (lit≤ tt);
     }
 
-pub equatorial-small : {e : SineCosine} {v : Vector} → OneAngle e → SmallVector 1_001_000_000 v → SmallVector 1_425_000_000 (equatorial e v)
+pub equatorial-small : {ε : SineCosine} {vector : Vector} → OneAngle ε → SmallVector 1_001_000_000 vector
+    → SmallVector 1_425_000_000 (equatorial ε vector)
 unfolding equatorial rotated
-equatorial-small {e} {v} u w =
+equatorial-small {ε} {vector} one small =
+    let along = along-most ε (vector .z) (vector .y) one (small .z-size) (small .y-size) in
+    let across = across-most ε (vector .z) (vector .y) one (small .z-size) (small .y-size) in
     record {
-      x-size = le-trans (w .x-size) (lit≤ tt);
-      y-size = le-trans (across-most e (v .z) (v .y) u (w .z-size) (w .y-size)) (lit≤ tt);
-      z-size = subst (λ (z : ℤ). natAbs z ≤ 1_425_000_000) (equatorial-z e v) (le-trans (along-most e (v .z) (v .y) u (w .z-size) (w .y-size)) (lit≤ tt));
+      x-size = le-trans (small .x-size) (lit≤ tt);
+      y-size = le-trans across (lit≤ tt);
+      z-size = subst (λ (z : ℤ). natAbs z ≤ 1_425_000_000) (equatorial-z ε vector) (le-trans along (lit≤ tt));
     }
 
-meridian-small : {h : SineCosine} {v : Vector} → OneAngle h → SmallVector 1_425_000_000 v → SmallVector 2_028_000_000 (meridian h v)
+meridian-small : {θ : SineCosine} {vector : Vector} → OneAngle θ → SmallVector 1_425_000_000 vector → SmallVector 2_028_000_000 (meridian θ vector)
 unfolding meridian rotated
-meridian-small {h} {v} u w =
+meridian-small {θ} {vector} one small =
     record {
-      x-size = le-trans (along-most h (v .x) (v .y) u (w .x-size) (w .y-size)) (lit≤ tt);
-      y-size = le-trans (across-most h (v .x) (v .y) u (w .x-size) (w .y-size)) (lit≤ tt);
-      z-size = le-trans (w .z-size) (lit≤ tt);
+      x-size = le-trans (along-most θ (vector .x) (vector .y) one (small .x-size) (small .y-size)) (lit≤ tt);
+      y-size = le-trans (across-most θ (vector .x) (vector .y) one (small .x-size) (small .y-size)) (lit≤ tt);
+      z-size = le-trans (small .z-size) (lit≤ tt);
     }
 
-observer-small : {t : SineCosine} (h : ℤ) → OneAngle t → natAbs h ≤ highest-height → SmallObserver (observer t h)
+observer-small : {φ : SineCosine} (height : ℤ) → OneAngle φ → natAbs height ≤ highest-height → SmallObserver (observer φ height)
 unfolding observer
-observer-small {t} h u k =
-    let w = flattened t in
+observer-small {φ} height one low =
+    let w = flattened φ in
+    let by-cosine = floored-most height (φ .cosine) radius low (one .cosine-size) in
+    let by-sine = floored-most height (φ .sine) radius low (one .sine-size) in
+    let flat = floored-most polar (sine w) 100_000_000 {m = 99_664_719} (lit≤ tt) (sine-most w) in
     record {
-      f-size = le-trans (add-bound (cosine w) ⌊ h *ℤ t .cosine ÷ radius ⌋ (cosine-most w) (floored-most h (t .cosine) radius k (u .cosine-size))) (lit≤ tt);
-      g-size =
-          le-trans
-          (add-bound ⌊ polar *ℤ sine w ÷ 100_000_000 ⌋ ⌊ h *ℤ t .sine ÷ radius ⌋
-          (floored-most polar (sine w) 100_000_000 {m = 99_664_719} (lit≤ tt) (sine-most w)) (floored-most h (t .sine) radius k (u .sine-size)))
-          (lit≤ tt);
+      f-size = le-trans (add-bound (cosine w) ⌊ height *ℤ φ .cosine ÷ radius ⌋ (cosine-most w) by-cosine) (lit≤ tt);
+      g-size = le-trans (add-bound ⌊ polar *ℤ sine w ÷ 100_000_000 ⌋ ⌊ height *ℤ φ .sine ÷ radius ⌋ flat by-sine) (lit≤ tt);
     }
 
-pub shifted-small : {o : Observer} {v : Vector} (p : ℤ) → natAbs p ≤ parallax-limit → SmallObserver o → SmallVector 2_028_000_000 v → SmallVector direction-limit (shifted p o v)
+shifted-small : {observer : Observer} {vector : Vector} (p : ℤ) → natAbs p ≤ parallax-limit → SmallObserver observer → SmallVector 2_028_000_000 vector
+    → SmallVector direction-limit (shifted p observer vector)
 unfolding shifted
-shifted-small {o} {v} p h n w =
+shifted-small {observer} {vector} p h near small =
     record {
-      x-size = le-trans (sub-bound (v .x) (p · o .f) (w .x-size) (product-most p (o .f) h (n .f-size))) (lit≤ tt);
-      y-size = le-trans (w .y-size) (lit≤ tt);
-      z-size = le-trans (sub-bound (v .z) (p · o .g) (w .z-size) (product-most p (o .g) h (n .g-size))) (lit≤ tt);
+      x-size = le-trans (sub-bound (vector .x) (p · observer .f) (small .x-size) (product-most p (observer .f) h (near .f-size))) (lit≤ tt);
+      y-size = le-trans (small .y-size) (lit≤ tt);
+      z-size = le-trans (sub-bound (vector .z) (p · observer .g) (small .z-size) (product-most p (observer .g) h (near .g-size))) (lit≤ tt);
     }
 
-pub horizon-small : {t : SineCosine} {v : Vector} → OneAngle t → SmallVector direction-limit v → SmallHorizon (horizon t v)
+pub horizon-small : {φ : SineCosine} {vector : Vector} → OneAngle φ → SmallVector direction-limit vector → SmallHorizon (horizon φ vector)
 unfolding horizon rotated
-horizon-small {t} {v} u w =
+horizon-small {φ} {vector} one small =
     record {
-      up-size = le-trans (along-most t (v .x) (v .z) u (w .x-size) (w .z-size)) (lit≤ tt);
-      north-size = le-trans (across-most t (v .x) (v .z) u (w .x-size) (w .z-size)) (lit≤ tt);
-      east-size = le-trans (w .y-size) (lit≤ tt);
+      up-size = le-trans (along-most φ (vector .x) (vector .z) one (small .x-size) (small .z-size)) (lit≤ tt);
+      north-size = le-trans (across-most φ (vector .x) (vector .z) one (small .x-size) (small .z-size)) (lit≤ tt);
+      east-size = le-trans (small .y-size) (lit≤ tt);
     }
 
 -- a smaller bound serves for a larger one
-pub widen : {m n : ℕ} {v : Vector} → T (leb m n) → SmallVector m v → SmallVector n v
-widen {m} {n} t w =
+pub widen : {m n : ℕ} {vector : Vector} → T (leb m n) → SmallVector m vector → SmallVector n vector
+widen {m} {n} t small =
     let l = leb→le m n t in
-    record { x-size = le-trans (w .x-size) l; y-size = le-trans (w .y-size) l; z-size = le-trans (w .z-size) l }
+    record { x-size = le-trans (small .x-size) l; y-size = le-trans (small .y-size) l; z-size = le-trans (small .z-size) l }
 
 -- ---- the whole of it
 pub centre-small : (body : Geocentric) (at : Orientation) → SmallVector 2_028_000_000 (from-centre body at)
@@ -117,7 +121,7 @@ centre-small body at =
 pub surface-small : (body : Geocentric) (at : Orientation) {observer : Observer} → natAbs (body .parallax) ≤ parallax-limit → SmallObserver observer
     → SmallVector direction-limit (from-surface body at observer)
 unfolding from-surface
-surface-small body at h n = shifted-small (body .parallax) h n (centre-small body at)
+surface-small body at far near = shifted-small (body .parallax) far near (centre-small body at)
 
 pub direction-small : (body : Body) {runner : Runner} {instant : Instant} → Standing runner → Reachable instant
     → SmallVector direction-limit (direction body runner instant)
@@ -126,7 +130,7 @@ direction-small body {runner} {instant} stands near =
     surface-small (geocentric body (instant .tt)) (orientation (runner .longitude) (instant .ut) (instant .tt))
     (parallax-small body (instant .tt) (near .tt-near)) (stands .observer-size)
 
--- a point on Earth is one to stand on
+-- whoever stands at a point on Earth is a runner as the functions want one
 pub runner-stands : (point : Point) → OnEarth point → Standing (runner point)
 unfolding runner
 runner-stands point h =

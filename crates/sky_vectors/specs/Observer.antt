@@ -32,4 +32,4 @@ observer φ height =
 
 -- a less p·f, z less p·g
 unfoldable pub shifted : ℤ → Observer → Vector → Vector
-shifted p o v = record { x = v .x -ℤ p · o .f; y = v .y; z = v .z -ℤ p · o .g }
+shifted p from vector = record { x = vector .x -ℤ p · from .f; y = vector .y; z = vector .z -ℤ p · from .g }

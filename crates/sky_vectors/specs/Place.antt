@@ -37,7 +37,7 @@ direction body runner instant =
 
 -- azimuth and elevation of a direction, at latitude φ
 unfoldable pub place-towards : SineCosine → Vector → Place
-place-towards φ v = record { azimuth = azimuth (horizon φ v); elevation = elevation (horizon φ v) }
+place-towards φ vector = let seen = horizon φ vector in record { azimuth = azimuth seen; elevation = elevation seen }
 
 -- of a body at an instant, from where a runner stands
 unfoldable pub place-from : Body → Runner → Instant → Place

@@ -6,4 +6,4 @@ use Rattle.sky_vectors.specs.declared.rotation.Pair.{Pair}
 
 -- along = x cos + y sin, across = y cos - x sin
 unfoldable pub rotated : SineCosine → ℤ → ℤ → Pair
-rotated t x y = record { along = x · t .cosine +ℤ y · t .sine; across = y · t .cosine -ℤ x · t .sine }
+rotated angle x y = record { along = x · angle .cosine +ℤ y · angle .sine; across = y · angle .cosine -ℤ x · angle .sine }

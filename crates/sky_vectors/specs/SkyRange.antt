@@ -54,24 +54,24 @@ abbrev pub direction-limit : ℕ
 direction-limit = 2_049_000_000
 
 -- what any sine and cosine of one angle keep to
-pub record OneAngle (t : SineCosine) : Type 0 where
-  pub sine-size : natAbs (t .sine) ≤ 1_000_000_001
-  pub cosine-size : natAbs (t .cosine) ≤ 1_000_000_001
-  pub together : natAbs (t .sine) + natAbs (t .cosine) ≤ 1_423_000_000
+pub record OneAngle (angle : SineCosine) : Type 0 where
+  pub sine-size : natAbs (angle .sine) ≤ 1_000_000_001
+  pub cosine-size : natAbs (angle .cosine) ≤ 1_000_000_001
+  pub together : natAbs (angle .sine) + natAbs (angle .cosine) ≤ 1_423_000_000
 
-pub record SmallVector (m : ℕ) (v : Vector) : Type 0 where
-  pub x-size : natAbs (v .x) ≤ m
-  pub y-size : natAbs (v .y) ≤ m
-  pub z-size : natAbs (v .z) ≤ m
+pub record SmallVector (limit : ℕ) (vector : Vector) : Type 0 where
+  pub x-size : natAbs (vector .x) ≤ limit
+  pub y-size : natAbs (vector .y) ≤ limit
+  pub z-size : natAbs (vector .z) ≤ limit
 
-pub record SmallObserver (o : Observer) : Type 0 where
-  pub f-size : natAbs (o .f) ≤ 1_002_000_000
-  pub g-size : natAbs (o .g) ≤ 1_002_000_000
+pub record SmallObserver (observer : Observer) : Type 0 where
+  pub f-size : natAbs (observer .f) ≤ 1_002_000_000
+  pub g-size : natAbs (observer .g) ≤ 1_002_000_000
 
-pub record SmallHorizon (h : Horizon) : Type 0 where
-  pub up-size : natAbs (h .up) ≤ 3_000_000_000
-  pub north-size : natAbs (h .north) ≤ 3_000_000_000
-  pub east-size : natAbs (h .east) ≤ 3_000_000_000
+pub record SmallHorizon (seen : Horizon) : Type 0 where
+  pub up-size : natAbs (seen .up) ≤ 3_000_000_000
+  pub north-size : natAbs (seen .north) ≤ 3_000_000_000
+  pub east-size : natAbs (seen .east) ≤ 3_000_000_000
 
 -- a runner on Earth
 pub record Standing (runner : Runner) : Type 0 where

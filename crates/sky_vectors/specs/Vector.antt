@@ -10,8 +10,18 @@ unit-vector l t = record { x = t .cosine · l .cosine; y = t .cosine · l .sine;
 
 -- x = X, y = Y cosε - Z sinε, z = Y sinε + Z cosε
 unfoldable pub equatorial : SineCosine → Vector → Vector
-equatorial ε v = record { x = v .x; y = v .y · ε .cosine -ℤ v .z · ε .sine; z = v .y · ε .sine +ℤ v .z · ε .cosine }
+equatorial ε vector =
+    record {
+      x = vector .x;
+      y = vector .y · ε .cosine -ℤ vector .z · ε .sine;
+      z = vector .y · ε .sine +ℤ vector .z · ε .cosine;
+    }
 
 -- a = x cosθ + y sinθ, b = y cosθ - x sinθ
 unfoldable pub meridian : SineCosine → Vector → Vector
-meridian θ v = record { x = v .x · θ .cosine +ℤ v .y · θ .sine; y = v .y · θ .cosine -ℤ v .x · θ .sine; z = v .z }
+meridian θ vector =
+    record {
+      x = vector .x · θ .cosine +ℤ vector .y · θ .sine;
+      y = vector .y · θ .cosine -ℤ vector .x · θ .sine;
+      z = vector .z;
+    }

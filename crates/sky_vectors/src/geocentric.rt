@@ -26,12 +26,12 @@ pub struct Geocentric {
     pub parallax: i64,
 }
 
-// The powers are those of TT.
-fn moon_geocentric(table: &[u32; 361], t: Powers, nutation: i64) -> Geocentric
-    requires { ⌜ (now table ≡ sines) × (Reached t × (nutation ≡ Δψ (t .n))) ⌝ }
-    ensures { λ r. ⌜ r ≡ moon-geocentric (t .n) ⌝ }
+// The Moon's, of TT.
+fn moon_geocentric(table: &[u32; 361], tt: Powers, nutation: i64) -> Geocentric
+    requires { ⌜ (now table ≡ sines) × (Reached tt × (nutation ≡ Δψ (tt .n))) ⌝ }
+    ensures { λ r. ⌜ r ≡ moon-geocentric (tt .n) ⌝ }
 {
-    let moon = moon_at(table, t);
+    let moon = moon_at(table, tt);
     let longitude = moon.longitude as i64 + nutation;
     let latitude = moon.latitude;
     let distance = moon.metres;
@@ -44,12 +44,12 @@ fn moon_geocentric(table: &[u32; 361], t: Powers, nutation: i64) -> Geocentric
     }
 }
 
-// Opposite to the Earth as the Sun sees it, and aberrated.
-fn sun_geocentric(table: &[u32; 361], t: Powers, nutation: i64) -> Geocentric
-    requires { ⌜ (now table ≡ sines) × (Reached t × (nutation ≡ Δψ (t .n))) ⌝ }
-    ensures { λ r. ⌜ r ≡ sun-geocentric (t .n) ⌝ }
+// The Sun's: opposite to the Earth as the Sun sees it, and aberrated.
+fn sun_geocentric(table: &[u32; 361], tt: Powers, nutation: i64) -> Geocentric
+    requires { ⌜ (now table ≡ sines) × (Reached tt × (nutation ≡ Δψ (tt .n))) ⌝ }
+    ensures { λ r. ⌜ r ≡ sun-geocentric (tt .n) ⌝ }
 {
-    let earth = sun_at(table, t);
+    let earth = sun_at(table, tt);
     let degrees = longitude_degrees(earth.longitude);
     let latitude = -latitude_degrees(earth.latitude);
     let distance = earth.radius;
@@ -65,12 +65,12 @@ fn sun_geocentric(table: &[u32; 361], t: Powers, nutation: i64) -> Geocentric
     }
 }
 
-pub fn geocentric_at(table: &[u32; 361], body: Body, t: Powers, nutation: i64) -> Geocentric
-    requires { ⌜ (now table ≡ sines) × (Reached t × (nutation ≡ Δψ (t .n))) ⌝ }
-    ensures { λ r. ⌜ r ≡ geocentric body (t .n) ⌝ }
+pub fn geocentric_at(table: &[u32; 361], body: Body, tt: Powers, nutation: i64) -> Geocentric
+    requires { ⌜ (now table ≡ sines) × (Reached tt × (nutation ≡ Δψ (tt .n))) ⌝ }
+    ensures { λ r. ⌜ r ≡ geocentric body (tt .n) ⌝ }
 {
     match body {
-        Body::Sun => sun_geocentric(table, t, nutation),
-        Body::Moon => moon_geocentric(table, t, nutation),
+        Body::Sun => sun_geocentric(table, tt, nutation),
+        Body::Moon => moon_geocentric(table, tt, nutation),
     }
 }

@@ -9,7 +9,7 @@ ghost use mathlib.Core.Path.{_≡_};
 ghost use Prim.Native.Nat.{_≤_};
 ghost use lib.IntN.{natAbs};
 ghost use Rattle.number_rules.specs.Angle.{full-turn};
-ghost use Rattle.sky_vectors.specs.Horizon.{horizon, azimuth, level, rising, lowered, clamped, elevation};
+ghost use Rattle.sky_vectors.specs.Horizon.{horizon, azimuth, level, slope, lowered, clamped, elevation};
 ghost use Rattle.sky_vectors.specs.SkyRange.{OneAngle, SmallVector, SmallHorizon, vector-limit};
 
 // What up and level answer where both are zero.
@@ -22,12 +22,12 @@ pub struct Horizon {
 }
 
 // At a latitude.
-pub fn horizon_at(latitude: SineCosine, v: Vector) -> Horizon
-    requires { ⌜ OneAngle latitude × SmallVector vector-limit v ⌝ }
-    ensures { λ r. ⌜ r ≡ horizon latitude v ⌝ }
+pub fn horizon_at(latitude: SineCosine, vector: Vector) -> Horizon
+    requires { ⌜ OneAngle latitude × SmallVector vector-limit vector ⌝ }
+    ensures { λ r. ⌜ r ≡ horizon latitude vector ⌝ }
 {
-    let east = v.y;
-    let turned = rotated(latitude, v.x, v.z);
+    let east = vector.y;
+    let turned = rotated(latitude, vector.x, vector.z);
     Horizon {
         up: turned.along,
         north: turned.across,
@@ -55,8 +55,8 @@ fn level(seen: Horizon) -> i64
 }
 
 // The elevation keeps a rule of its own for two zeros, whatever the arctangent says of them.
-fn rising(up: i64, level: i64) -> i64
-    ensures { λ r. ⌜ r ≡ rising up level ⌝ }
+fn slope(up: i64, level: i64) -> i64
+    ensures { λ r. ⌜ r ≡ slope up level ⌝ }
 {
     if up == 0 && level == 0 {
         ELEVATION_OF_ZEROS
@@ -66,28 +66,28 @@ fn rising(up: i64, level: i64) -> i64
 }
 
 // Less a whole turn from 180 degrees up.
-fn lowered(a: i64) -> i64
-    requires { ⌜ natAbs a ≤ full-turn ⌝ }
-    ensures { λ r. ⌜ r ≡ lowered a ⌝ }
+fn lowered(angle: i64) -> i64
+    requires { ⌜ natAbs angle ≤ full-turn ⌝ }
+    ensures { λ r. ⌜ r ≡ lowered angle ⌝ }
 {
-    if a >= Angle::HALF as i64 {
-        a - Angle::FULL as i64
+    if angle >= Angle::HALF as i64 {
+        angle - Angle::FULL as i64
     } else {
-        a
+        angle
     }
 }
 
 // Kept within 90 degrees of the horizon.
-fn clamped(e: i64) -> i64
-    ensures { λ r. ⌜ r ≡ clamped e ⌝ }
+fn clamped(angle: i64) -> i64
+    ensures { λ r. ⌜ r ≡ clamped angle ⌝ }
 {
     let most = Angle::QUARTER as i64;
-    if e > most {
+    if angle > most {
         most
-    } else if e < -most {
+    } else if angle < -most {
         -most
     } else {
-        e
+        angle
     }
 }
 
@@ -96,5 +96,5 @@ pub fn elevation(seen: Horizon) -> i64
     ensures { λ r. ⌜ r ≡ elevation seen ⌝ }
 {
     let up = seen.up;
-    clamped(lowered(rising(up, level(seen))))
+    clamped(lowered(slope(up, level(seen))))
 }

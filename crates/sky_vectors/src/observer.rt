@@ -41,15 +41,15 @@ pub fn observer_at(table: &[u32; 361], latitude: SineCosine, height: i64) -> Obs
 }
 
 // The vector less the parallax p times the observer's distances.
-pub fn shifted(p: i64, observer: Observer, v: Vector) -> Vector
-    requires { ⌜ (natAbs p ≤ parallax-limit) × SmallObserver observer × SmallVector vector-limit v ⌝ }
-    ensures { λ r. ⌜ r ≡ shifted p observer v ⌝ }
+pub fn shifted(p: i64, observer: Observer, vector: Vector) -> Vector
+    requires { ⌜ (natAbs p ≤ parallax-limit) × SmallObserver observer × SmallVector vector-limit vector ⌝ }
+    ensures { λ r. ⌜ r ≡ shifted p observer vector ⌝ }
 {
     let f = observer.f;
     let g = observer.g;
-    let x = v.x;
-    let y = v.y;
-    let z = v.z;
+    let x = vector.x;
+    let y = vector.y;
+    let z = vector.z;
     Vector {
         x: x - floor_div(p * f, 1_000_000_000),
         y,

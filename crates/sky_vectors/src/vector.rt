@@ -27,12 +27,12 @@ pub fn unit_vector(l: SineCosine, t: SineCosine) -> Vector
 }
 
 // From the ecliptic to the equator, by the obliquity.
-pub fn equatorial(obliquity: SineCosine, v: Vector) -> Vector
-    requires { ⌜ OneAngle obliquity × SmallVector vector-limit v ⌝ }
-    ensures { λ r. ⌜ r ≡ equatorial obliquity v ⌝ }
+pub fn equatorial(obliquity: SineCosine, vector: Vector) -> Vector
+    requires { ⌜ OneAngle obliquity × SmallVector vector-limit vector ⌝ }
+    ensures { λ r. ⌜ r ≡ equatorial obliquity vector ⌝ }
 {
-    let x = v.x;
-    let turned = rotated(obliquity, v.z, v.y);
+    let x = vector.x;
+    let turned = rotated(obliquity, vector.z, vector.y);
     Vector {
         x,
         y: turned.across,
@@ -41,12 +41,12 @@ pub fn equatorial(obliquity: SineCosine, v: Vector) -> Vector
 }
 
 // From the equinox to the runner's meridian, by the sidereal angle there.
-pub fn meridian(sidereal: SineCosine, v: Vector) -> Vector
-    requires { ⌜ OneAngle sidereal × SmallVector vector-limit v ⌝ }
-    ensures { λ r. ⌜ r ≡ meridian sidereal v ⌝ }
+pub fn meridian(sidereal: SineCosine, vector: Vector) -> Vector
+    requires { ⌜ OneAngle sidereal × SmallVector vector-limit vector ⌝ }
+    ensures { λ r. ⌜ r ≡ meridian sidereal vector ⌝ }
 {
-    let z = v.z;
-    let turned = rotated(sidereal, v.x, v.y);
+    let z = vector.z;
+    let turned = rotated(sidereal, vector.x, vector.y);
     Vector {
         x: turned.along,
         y: turned.across,

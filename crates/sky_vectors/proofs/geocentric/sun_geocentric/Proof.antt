@@ -27,7 +27,7 @@ module _ (c : tie.After-sun-at) where
   s = c .before
 
   abbrev n : ℤ
-  n = s .args .t .n
+  n = s .args .tt .n
 
   near : natAbs n ≤ furthest
   near = s .pre .1 .0 .near

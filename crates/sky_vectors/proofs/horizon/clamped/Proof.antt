@@ -10,8 +10,8 @@ use Rattle.sky_vectors.specs.Horizon.{clamped}
 use Rattle.sky_vectors.proofs.horizon.clamped.Statement.{statement}
 use Rattle.sky_vectors.proofs.horizon.clamped.Tie as tie
 
-abbrev e : tie.Start → Mirror
-e a = any (a .fits .e)
+abbrev angle : tie.Start → Mirror
+angle s = any (s .fits .angle)
 
 cast-most : tie.Need-cast-most
 cast-most c = search needs
@@ -24,18 +24,18 @@ sub-result c = search needs
 
 returns : tie.Need-returns
 unfolding clamped
-returns c = rw (subst (λ (z : ℤ). ltZ (pos quarter-turn) z ≡ true) (e (c .before) .same) (c .if1 .taken))
+returns c = rw (subst (λ (z : ℤ). ltZ (pos quarter-turn) z ≡ true) (angle (c .before) .same) (c .if1 .taken))
 
 returns-2 : tie.Need-returns-2
 unfolding clamped
 returns-2 c =
-    let s = e (c .before .before) .same in
+    let s = angle (c .before .before) .same in
     rw (subst (λ (z : ℤ). ltZ (pos quarter-turn) z ≡ false) s (c .before .if1 .left), subst (λ (z : ℤ). ltZ z (negℤ (pos quarter-turn)) ≡ true) s (c .if2 .taken))
 
 returns-3 : tie.Need-returns-3
 unfolding clamped
 returns-3 c =
-    let s = e (c .before .before) .same in
+    let s = angle (c .before .before) .same in
     rw (subst (λ (z : ℤ). ltZ (pos quarter-turn) z ≡ false) s (c .before .if1 .left), subst (λ (z : ℤ). ltZ z (negℤ (pos quarter-turn)) ≡ false) s (c .if2 .left)) s
 
 pub clamped-spec : {M : Type 1} → statement M

@@ -3,12 +3,12 @@ use mathlib.Core.Path.{_∙_, _≡_, ap, ap₂}
 use lib.IntN.{ℤ}
 use borrow.Author.Needs.{needs}
 use Rattle.numbers.proofs.Machine.{Mirror, asked, gave, passed}
-use Rattle.sky_vectors.specs.Horizon.{clamped, elevation, level, lowered, rising}
-use Rattle.sky_vectors.proofs.SkyMirror.{field, rising-most}
+use Rattle.sky_vectors.specs.Horizon.{clamped, elevation, level, lowered, slope}
+use Rattle.sky_vectors.proofs.SkyMirror.{field, slope-most}
 use Rattle.sky_vectors.proofs.horizon.elevation.Statement.{statement}
 use Rattle.sky_vectors.proofs.horizon.elevation.Tie as tie
 
-module _ (c : tie.After-rising) where
+module _ (c : tie.After-slope) where
   abbrev start : tie.Start
   start = c .before .before .before
 
@@ -18,19 +18,19 @@ module _ (c : tie.After-rising) where
   abbrev flat : ℤ
   flat = level (start .args .seen)
 
-  rising-is : c .rising .result ≡ rising up flat
-  rising-is =
-      c .rising .ensures
-      ∙ ap₂ rising (field up (start .pre .up-size) tt .same) (passed (c .before .level .ok) (c .before .level .ensures))
+  slope-is : c .slope .result ≡ slope up flat
+  slope-is =
+      c .slope .ensures
+      ∙ ap₂ slope (field up (start .pre .up-size) tt .same) (passed (c .before .level .ok) (c .before .level .ensures))
 
   abbrev angle : Mirror
-  angle = gave (c .rising .ok) rising-is (rising-most up flat)
+  angle = gave (c .slope .ok) slope-is (slope-most up flat)
 
 level-requires : tie.Need-level-requires
 level-requires c κs = search needs
 
-rising-requires : tie.Need-rising-requires
-rising-requires c κs = search needs
+slope-requires : tie.Need-slope-requires
+slope-requires c κs = search needs
 
 lowered-requires : tie.Need-lowered-requires
 lowered-requires c κs = asked (angle c) tt
@@ -45,4 +45,4 @@ returns c =
     passed (c .clamped .ok) (c .clamped .ensures ∙ ap clamped (passed (k .lowered .ok) (k .lowered .ensures ∙ ap lowered (angle (k .before) .same))))
 
 pub elevation-spec : {M : Type 1} → statement M
-elevation-spec = tie.close (tie.spec level-requires rising-requires lowered-requires clamped-requires returns)
+elevation-spec = tie.close (tie.spec level-requires slope-requires lowered-requires clamped-requires returns)

@@ -18,7 +18,7 @@ unfolding horizon rotated
 returns c =
     let k = c .before in
     let φ = start k .args .latitude in
-    let v = start k .args .v in
+    let v = start k .args .vector in
     let small = start k .pre .1 in
     λ i. record {
       up = gave-along φ (v .x) (v .z) (start k .pre .0) (small .x-size) (small .z-size) (k .rotated .ensures) i;

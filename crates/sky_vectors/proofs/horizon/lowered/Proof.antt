@@ -10,8 +10,8 @@ use Rattle.sky_vectors.specs.Horizon.{lowered}
 use Rattle.sky_vectors.proofs.horizon.lowered.Statement.{statement}
 use Rattle.sky_vectors.proofs.horizon.lowered.Tie as tie
 
-abbrev a : tie.Start → Mirror
-a s = arg (s .fits .a) (s .pre)
+abbrev angle : tie.Start → Mirror
+angle s = arg (s .fits .angle) (s .pre)
 
 cast-if1 : tie.Need-cast-if1
 cast-if1 c = search needs
@@ -20,17 +20,17 @@ cast-result : tie.Need-cast-result
 cast-result c = search needs
 
 sub-result : tie.Need-sub-result
-sub-result c = fits (a (c .before) ⊖ lit (pos full-turn)) tt
+sub-result c = fits (angle (c .before) ⊖ lit (pos full-turn)) tt
 
 returns : tie.Need-returns
 unfolding lowered
 returns c =
-    rw (subst (λ (z : ℤ). leZ (pos half-turn) z ≡ true) (a (c .before) .same) (c .if1 .taken))
-    (kept (a (c .before) ⊖ lit (pos full-turn)) tt .same)
+    rw (subst (λ (z : ℤ). leZ (pos half-turn) z ≡ true) (angle (c .before) .same) (c .if1 .taken))
+    (kept (angle (c .before) ⊖ lit (pos full-turn)) tt .same)
 
 returns-2 : tie.Need-returns-2
 unfolding lowered
-returns-2 c = rw (subst (λ (z : ℤ). leZ (pos half-turn) z ≡ false) (a (c .before) .same) (c .if1 .left)) (a (c .before) .same)
+returns-2 c = rw (subst (λ (z : ℤ). leZ (pos half-turn) z ≡ false) (angle (c .before) .same) (c .if1 .left)) (angle (c .before) .same)
 
 pub lowered-spec : {M : Type 1} → statement M
 lowered-spec = tie.close (tie.spec cast-if1 cast-result sub-result returns returns-2)

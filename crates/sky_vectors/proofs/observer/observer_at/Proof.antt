@@ -1,5 +1,6 @@
 -- `observer::observer_at` meets its contract. Each local is mirrored once, at the place where it is known.
 use mathlib.Core.Path.{_∙_, _≡_, ap}
+use lib.IntN.{ℤ}
 use borrow.Author.Needs.{needs}
 use Rattle.number_rules.specs.Sine.{cosine, sine}
 use Rattle.numbers.proofs.Machine.{Mirror, _⊕_, _⊗_, arg, fits, floor-gave, kept, lit, told}
@@ -10,62 +11,66 @@ use Rattle.sky_vectors.proofs.observer.observer_at.Statement.{statement
 use Rattle.sky_vectors.proofs.observer.observer_at.Tie as tie
 
 module _ (k : tie.After-struct-told2) where
-  abbrev a : tie.Start
-  a = k .before .before
+  abbrev start : tie.Start
+  start = k .before .before
 
-  abbrev s : Mirror
-  s = sine-in (a .pre .1)
+  abbrev sine-φ : Mirror
+  sine-φ = sine-in (start .pre .1)
 
-  abbrev c : Mirror
-  c = cosine-in (a .pre .1)
+  abbrev cosine-φ : Mirror
+  cosine-φ = cosine-in (start .pre .1)
 
   abbrev height : Mirror
-  height = arg (a .fits .height) (a .pre .2)
+  height = arg (start .fits .height) (start .pre .2)
 
   abbrev shrunk : Mirror
-  shrunk = lit polar ⊗ s
+  shrunk = lit polar ⊗ sine-φ
 
-abbrev y : tie.After-floor-div → Mirror
-y k = floor-gave (kept (shrunk (k .before)) tt) 100_000_000 (k .floor-div .ok) (k .floor-div .ensures)
+abbrev polar-sine : tie.After-floor-div → Mirror
+polar-sine k = floor-gave (kept (shrunk (k .before)) tt) 100_000_000 (k .floor-div .ok) (k .floor-div .ensures)
 
 abbrev angle : tie.After-arctangent → Mirror
-angle k = angle-gave (y (k .before)) (c (k .before .before)) (k .arctangent .ensures)
+angle k = angle-gave (polar-sine (k .before)) (cosine-φ (k .before .before)) (k .arctangent .ensures)
 
 module _ (k : tie.After-sine-cosine-in) where
-  abbrev k₀ : tie.After-struct-told2
-  k₀ = k .before .before .before
+  abbrev read : tie.After-struct-told2
+  read = k .before .before .before
 
-  sine-is : k .sine-cosine-in .result .sine ≡ sine (flattened (a k₀ .args .latitude))
+  abbrev w : ℤ
+  w = flattened (start read .args .latitude)
+
+  sine-is : k .sine-cosine-in .result .sine ≡ sine w
   unfolding flattened
   sine-is = k .sine-cosine-in .ensures .0 ∙ ap sine (angle (k .before) .same)
 
-  cosine-is : k .sine-cosine-in .result .cosine ≡ cosine (flattened (a k₀ .args .latitude))
+  cosine-is : k .sine-cosine-in .result .cosine ≡ cosine w
   unfolding flattened
   cosine-is = k .sine-cosine-in .ensures .1 ∙ ap cosine (angle (k .before) .same)
 
-  abbrev ws : Mirror
-  ws = told sine-is (sine-most (flattened (a k₀ .args .latitude))) tt
+  abbrev cosine-w : Mirror
+  cosine-w = told cosine-is (cosine-most w) tt
 
-  abbrev wc : Mirror
-  wc = told cosine-is (cosine-most (flattened (a k₀ .args .latitude))) tt
-
-  abbrev up : Mirror
-  up = height k₀ ⊗ c k₀
-
-  abbrev across : Mirror
-  across = height k₀ ⊗ s k₀
+  abbrev along : Mirror
+  along = height read ⊗ cosine-φ read
 
   abbrev axial : Mirror
-  axial = lit polar ⊗ ws
+  axial = lit polar ⊗ told sine-is (sine-most w) tt
+
+  abbrev upwards : Mirror
+  upwards = height read ⊗ sine-φ read
+
+-- the state in which w became known
+abbrev known : tie.After-struct-told4 → tie.After-sine-cosine-in
+known k = k .before .before
 
 abbrev f : tie.After-floor-div2 → Mirror
-f k = let w = k .before .before .before in wc w ⊕ floor-gave (kept (up w) tt) radius (k .floor-div2 .ok) (k .floor-div2 .ensures)
+f k = let e = known (k .before) in cosine-w e ⊕ floor-gave (kept (along e) tt) radius (k .floor-div2 .ok) (k .floor-div2 .ensures)
 
 abbrev g : tie.After-floor-div4 → Mirror
 g k =
-    let w = k .before .before .before .before .before in
-    floor-gave (kept (axial w) tt) 100_000_000 (k .before .floor-div3 .ok) (k .before .floor-div3 .ensures)
-    ⊕ floor-gave (kept (across w) tt) radius (k .floor-div4 .ok) (k .floor-div4 .ensures)
+    let e = known (k .before .before .before) in
+    floor-gave (kept (axial e) tt) 100_000_000 (k .before .floor-div3 .ok) (k .before .floor-div3 .ensures)
+    ⊕ floor-gave (kept (upwards e) tt) radius (k .floor-div4 .ok) (k .floor-div4 .ensures)
 
 mul-floor-div : tie.Need-mul-floor-div
 mul-floor-div k = fits (shrunk k) tt
@@ -77,13 +82,13 @@ arctangent-requires : tie.Need-arctangent-requires
 arctangent-requires k κs = search needs
 
 cast-sine-cosine-in : tie.Need-cast-sine-cosine-in
-cast-sine-cosine-in k = angle-fits (y (k .before)) (c (k .before .before)) (k .arctangent .ensures)
+cast-sine-cosine-in k = angle-fits (polar-sine (k .before)) (cosine-φ (k .before .before)) (k .arctangent .ensures)
 
 sine-cosine-in-requires : tie.Need-sine-cosine-in-requires
 sine-cosine-in-requires k κs = search needs
 
 mul-floor-div-2 : tie.Need-mul-floor-div-2
-mul-floor-div-2 k = fits (up (k .before .before)) tt
+mul-floor-div-2 k = fits (along (known k)) tt
 
 floor-div-requires-2 : tie.Need-floor-div-requires-2
 floor-div-requires-2 k κs = search needs
@@ -92,13 +97,13 @@ add-f : tie.Need-add-f
 add-f k = fits (f k) tt
 
 mul-floor-div-3 : tie.Need-mul-floor-div-3
-mul-floor-div-3 k = fits (axial (k .before .before .before)) tt
+mul-floor-div-3 k = fits (axial (known (k .before))) tt
 
 floor-div-requires-3 : tie.Need-floor-div-requires-3
 floor-div-requires-3 k κs = search needs
 
 mul-floor-div-4 : tie.Need-mul-floor-div-4
-mul-floor-div-4 k = fits (across (k .before .before .before .before)) tt
+mul-floor-div-4 k = fits (upwards (known (k .before .before))) tt
 
 floor-div-requires-4 : tie.Need-floor-div-requires-4
 floor-div-requires-4 k κs = search needs

@@ -8,26 +8,30 @@ use Rattle.sky_vectors.proofs.observer.shifted.Statement.{statement}
 use Rattle.sky_vectors.proofs.observer.shifted.Tie as tie
 
 module _ (k : tie.After-struct-told5) where
-  abbrev a : tie.Start
-  a = k .before .before .before .before .before
+  abbrev start : tie.Start
+  start = k .before .before .before .before .before
 
   abbrev p : Mirror
-  p = arg (a .fits .p) (a .pre .0)
+  p = arg (start .fits .p) (start .pre .0)
 
-  abbrev pf : Mirror
-  pf = p ⊗ field (a .args .observer .f) (a .pre .1 .f-size) tt
+  abbrev p-f : Mirror
+  p-f = p ⊗ field (start .args .observer .f) (start .pre .1 .f-size) tt
 
-  abbrev pg : Mirror
-  pg = p ⊗ field (a .args .observer .g) (a .pre .1 .g-size) tt
+  abbrev p-g : Mirror
+  p-g = p ⊗ field (start .args .observer .g) (start .pre .1 .g-size) tt
 
 abbrev x : tie.After-floor-div → Mirror
-x c = x-in (a (c .before) .pre .2) tt ⊖ floor-gave (kept (pf (c .before)) tt) 1_000_000_000 (c .floor-div .ok) (c .floor-div .ensures)
+x c =
+    let k = c .before in
+    x-in (start k .pre .2) tt ⊖ floor-gave (kept (p-f k) tt) 1_000_000_000 (c .floor-div .ok) (c .floor-div .ensures)
 
 abbrev z : tie.After-floor-div2 → Mirror
-z c = z-in (a (c .before .before) .pre .2) tt ⊖ floor-gave (kept (pg (c .before .before)) tt) 1_000_000_000 (c .floor-div2 .ok) (c .floor-div2 .ensures)
+z c =
+    let k = c .before .before in
+    z-in (start k .pre .2) tt ⊖ floor-gave (kept (p-g k) tt) 1_000_000_000 (c .floor-div2 .ok) (c .floor-div2 .ensures)
 
 mul-floor-div : tie.Need-mul-floor-div
-mul-floor-div c = fits (pf c) tt
+mul-floor-div c = fits (p-f c) tt
 
 floor-div-requires : tie.Need-floor-div-requires
 floor-div-requires c κs = search needs
@@ -36,7 +40,7 @@ sub-t11 : tie.Need-sub-t11
 sub-t11 c = fits (x c) tt
 
 mul-floor-div-2 : tie.Need-mul-floor-div-2
-mul-floor-div-2 c = fits (pg (c .before)) tt
+mul-floor-div-2 c = fits (p-g (c .before)) tt
 
 floor-div-requires-2 : tie.Need-floor-div-requires-2
 floor-div-requires-2 c κs = search needs
@@ -49,7 +53,7 @@ unfolding shifted _·_
 returns c =
     λ i. record {
       x = kept (x (c .before)) tt .same i;
-      y = y-in (a (c .before .before) .pre .2) tt .same i;
+      y = y-in (start (c .before .before) .pre .2) tt .same i;
       z = kept (z c) tt .same i;
     }
 

@@ -113,10 +113,10 @@ orientation-at-requires c κs =
 
 from-surface-requires : tie.Need-from-surface-requires
 from-surface-requires c κs = (
-      from c .pre .0,
-      subst⁻¹ (λ (g : Geocentric). natAbs (g .parallax) ≤ parallax-limit) (centre-is c) (parallax-small (body (from c)) (instant (from c) .tt) (near (from c) .tt-near)),
-      stands (from c) .observer-size,
-    )
+  from c .pre .0,
+  subst⁻¹ (λ (g : Geocentric). natAbs (g .parallax) ≤ parallax-limit) (centre-is c) (parallax-small (body (from c)) (instant (from c) .tt) (near (from c) .tt-near)),
+  stands (from c) .observer-size,
+)
 
 returns : tie.Need-returns
 unfolding direction

@@ -21,21 +21,21 @@ module _ (s : tie.Start) where
   abbrev height : Mirror
   height = field (s .args .point .height) (s .pre .1 .height-size) tt
 
+abbrev start : tie.After-struct-told2 → tie.Start
+start c = c .before .before .before .before
+
 module _ (c : tie.After-sine-cosine-in) where
-  abbrev told : tie.After-struct-told2
-  told = c .before
+  abbrev begun : tie.Start
+  begun = start (c .before)
 
-  abbrev start : tie.Start
-  start = told .before .before .before .before
-
-  latitude-is : c .sine-cosine-in .result ≡ sine-cosine (pos 10 *ℤ start .args .point .latitude)
-  latitude-is = gave-sine-cosine _ (c .sine-cosine-in .ensures) ∙ ap sine-cosine (kept (latitude start) tt .same)
+  latitude-is : c .sine-cosine-in .result ≡ sine-cosine (pos 10 *ℤ begun .args .point .latitude)
+  latitude-is = gave-sine-cosine _ (c .sine-cosine-in .ensures) ∙ ap sine-cosine (kept (latitude begun) tt .same)
 
 mul-longitude : tie.Need-mul-longitude
 mul-longitude c = fits (longitude (c .before .before)) tt
 
 mul-sine-cosine-in : tie.Need-mul-sine-cosine-in
-mul-sine-cosine-in c = fits (latitude (c .before .before .before .before)) tt
+mul-sine-cosine-in c = fits (latitude (start c)) tt
 
 sine-cosine-in-requires : tie.Need-sine-cosine-in-requires
 sine-cosine-in-requires c κs = search needs
@@ -43,14 +43,14 @@ sine-cosine-in-requires c κs = search needs
 observer-at-requires : tie.Need-observer-at-requires
 observer-at-requires c κs =
     let k = c .before in
-    (start k .pre .0, gave-one-angle _ (k .sine-cosine-in .ensures), asked (height (start k)) tt)
+    (begun k .pre .0, gave-one-angle _ (k .sine-cosine-in .ensures), asked (height (begun k)) tt)
 
 returns : tie.Need-returns
 unfolding runner
 returns c =
     let k = c .before .before in
-    let l = kept (longitude (start k)) tt .same in
-    let o = c .observer-at .ensures ∙ ap₂ observer (latitude-is k) (height (start k) .same) in
+    let l = kept (longitude (begun k)) tt .same in
+    let o = c .observer-at .ensures ∙ ap₂ observer (latitude-is k) (height (begun k) .same) in
     λ i. record { longitude = l i; latitude = latitude-is k i; observer = o i }
 
 pub runner-at-spec : {M : Type 1} → statement M

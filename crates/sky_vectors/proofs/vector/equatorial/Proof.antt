@@ -19,7 +19,7 @@ unfolding equatorial rotated
 returns c =
     let k = c .before in
     let ε = start k .args .obliquity in
-    let v = start k .args .v in
+    let v = start k .args .vector in
     let small = start k .pre .1 in
     λ i. record {
       x = x-in small tt .same i;

@@ -18,7 +18,7 @@ unfolding meridian rotated
 returns c =
     let k = c .before in
     let θ = start k .args .sidereal in
-    let v = start k .args .v in
+    let v = start k .args .vector in
     let small = start k .pre .1 in
     λ i. record {
       x = gave-along θ (v .x) (v .y) (start k .pre .0) (small .x-size) (small .y-size) (k .rotated .ensures) i;

@@ -8,23 +8,23 @@ use Rattle.sky_vectors.proofs.vector.unit_vector.Statement.{statement}
 use Rattle.sky_vectors.proofs.vector.unit_vector.Tie as tie
 
 module _ (k : tie.After-struct-told4) where
-  abbrev a : tie.Start
-  a = k .before .before .before .before
+  abbrev start : tie.Start
+  start = k .before .before .before .before
 
-  abbrev xx : Mirror
-  xx = cosine-in (a .pre .1) ⊗ cosine-in (a .pre .0)
+  abbrev x : Mirror
+  x = cosine-in (start .pre .1) ⊗ cosine-in (start .pre .0)
 
-  abbrev yy : Mirror
-  yy = cosine-in (a .pre .1) ⊗ sine-in (a .pre .0)
+  abbrev y : Mirror
+  y = cosine-in (start .pre .1) ⊗ sine-in (start .pre .0)
 
 mul-floor-div : tie.Need-mul-floor-div
-mul-floor-div c = fits (xx c) tt
+mul-floor-div c = fits (x c) tt
 
 floor-div-requires : tie.Need-floor-div-requires
 floor-div-requires c κs = search needs
 
 mul-floor-div-2 : tie.Need-mul-floor-div-2
-mul-floor-div-2 c = fits (yy (c .before)) tt
+mul-floor-div-2 c = fits (y (c .before)) tt
 
 floor-div-requires-2 : tie.Need-floor-div-requires-2
 floor-div-requires-2 c κs = search needs
@@ -34,9 +34,9 @@ unfolding unit-vector _·_
 returns c =
     let k = c .before .before in
     λ i. record {
-      x = floor-gave (kept (xx k) tt) 1_000_000_000 (c .before .floor-div .ok) (c .before .floor-div .ensures) .same i;
-      y = floor-gave (kept (yy k) tt) 1_000_000_000 (c .floor-div2 .ok) (c .floor-div2 .ensures) .same i;
-      z = sine-in (a k .pre .1) .same i;
+      x = floor-gave (kept (x k) tt) 1_000_000_000 (c .before .floor-div .ok) (c .before .floor-div .ensures) .same i;
+      y = floor-gave (kept (y k) tt) 1_000_000_000 (c .floor-div2 .ok) (c .floor-div2 .ensures) .same i;
+      z = sine-in (start k .pre .1) .same i;
     }
 
 pub unit-vector-spec : {M : Type 1} → statement M
