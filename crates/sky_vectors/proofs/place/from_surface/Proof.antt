@@ -1,7 +1,7 @@
 -- `place::from_surface` meets its contract.
 use mathlib.Core.Path.{_∙_, subst⁻¹}
 use borrow.Author.Needs.{needs}
-use Rattle.numbers.proofs.Machine.{Mirror, asked}
+use Rattle.numbers.proofs.Machine.{Mirror}
 use Rattle.sky_vectors.specs.Observer.{shifted}
 use Rattle.sky_vectors.specs.Place.{from-surface}
 use Rattle.sky_vectors.specs.SkyRange.{SmallVector, vector-limit}
@@ -19,7 +19,7 @@ from-centre-requires c κs = search needs
 shifted-requires : tie.Need-shifted-requires
 shifted-requires c κs =
     let s = c .before .before in (
-      asked (parallax s) tt,
+      search needs,
       s .pre .2,
       subst⁻¹ (SmallVector vector-limit) (c .from-centre .ensures) (widen tt (centre-small (s .args .body) (s .args .orientation))),
     )
