@@ -20,7 +20,7 @@ use Rattle.numbers.proofs.RefusalLaws.{alone, first-append, none, none-append, 
 use Rattle.numbers.specs.Refusal.{_else_, _unless_, first}
 use Rattle.numbers.specs.Whole.{between}
 use Rattle.sky.specs.Request.{date, delta-limit, elapsed, instant, is-clock, point-refusals, start-refusals, ut1-limit}
-use Rattle.sky_vectors.specs.SkyRange.{OnEarth, Reachable}
+use Rattle.sky_vectors.specs.SkyRange.{OnEarth, Reachable, highest-height, latitude-limit, longitude-limit, lowest-height}
 use Rattle.sky_vectors.specs.declared.station.Point.{Point}
 use Rattle.sky.specs.declared.request.Start.{Start}
 use Rattle.sum_rules.proofs.AcceptedInstants.{terrestrial-near, universal-near}
@@ -127,16 +127,16 @@ start-reachable s e = record { ut-near = universal-near (accepted s e); tt-near 
 -- ---- an accepted point
 pub on-earth : (p : Point) → first (point-refusals p) ≡ 0 → OnEarth p
 on-earth p e =
-    let longitude = none (7 unless between (minus 1_800_000_000) (p .longitude) (pos 1_800_000_000)) (drop 1 (point-refusals p)) e in
-    let latitude = none (8 unless between (minus 900_000_000) (p .latitude) (pos 900_000_000)) (drop 2 (point-refusals p)) (longitude .1) in
-    let height = none (9 unless between (minus 500) (p .height) (pos 9_000)) [] (latitude .1) in
+    let by-longitude = between (minus longitude-limit) (p .longitude) (pos longitude-limit) in
+    let by-latitude = between (minus latitude-limit) (p .latitude) (pos latitude-limit) in
+    let by-height = between lowest-height (p .height) (pos highest-height) in
+    let longitude = none (7 unless by-longitude) (drop 1 (point-refusals p)) e in
+    let latitude = none (8 unless by-latitude) (drop 2 (point-refusals p)) (longitude .1) in
+    let height = none (9 unless by-height) [] (latitude .1) in
     record {
-      longitude-size =
-          between-size 1_800_000_000 1_800_000_000 (p .longitude) (lit≤ tt)
-          (passes 6 (between (minus 1_800_000_000) (p .longitude) (pos 1_800_000_000)) (longitude .0));
-      latitude-size =
-          between-size 900_000_000 900_000_000 (p .latitude) (lit≤ tt) (passes 7 (between (minus 900_000_000) (p .latitude) (pos 900_000_000)) (latitude .0));
-      height-size = between-size 500 9_000 (p .height) (lit≤ tt) (passes 8 (between (minus 500) (p .height) (pos 9_000)) (height .0));
+      longitude-size = between-size longitude-limit longitude-limit (p .longitude) (lit≤ tt) (passes 6 by-longitude (longitude .0));
+      latitude-size = between-size latitude-limit latitude-limit (p .latitude) (lit≤ tt) (passes 7 by-latitude (latitude .0));
+      height-size = between-size 500 highest-height (p .height) (lit≤ tt) (passes 8 by-height (height .0));
     }
 
 -- ---- a start, a point, and further checks

@@ -6,7 +6,7 @@ use lib.Dec.{eqb, leb}
 use lib.IntN.{_+ℤ_, pos, ℤ}
 use lib.ListN.{drop, getD, length}
 use lib.Signed.{ltZ}
-use Rattle.sky_vectors.specs.Place.{place-at}
+use Rattle.sky_vectors.specs.Place.{place-at, place-from}
 use Rattle.sky_vectors.specs.SkyRange.{Reachable}
 use Rattle.numbers.specs.Refusal.{_unless_, first, number}
 use Rattle.sky.specs.Request.{moved, point-refusals, start-refusals, utc}
@@ -14,6 +14,7 @@ use Rattle.sky.specs.declared.batch.Batch.{Batch}
 use Rattle.sky.specs.declared.batch.Batch.the-variants.{Done, Late, Refused}
 use Rattle.sky_vectors.specs.declared.geocentric.Body.{Body}
 use Rattle.sky_vectors.specs.declared.station.Point.{Point}
+use Rattle.sky_vectors.specs.declared.station.Runner.{Runner}
 use Rattle.sky.specs.declared.request.Start.{Start}
 use Rattle.sum_rules.specs.Instant.{second}
 use Rattle.sum_rules.specs.declared.instant.Instant.{Instant}
@@ -78,6 +79,13 @@ azimuth-at body p start offset = place-at body p (later start offset) .azimuth
 
 abbrev pub elevation-at : Body → Point → Instant → ℕ → ℤ
 elevation-at body p start offset = place-at body p (later start offset) .elevation
+
+-- the same from where a runner stands, who is worked out once
+abbrev pub azimuth-from : Body → Runner → Instant → ℕ → ℤ
+azimuth-from body runner start offset = place-from body runner (later start offset) .azimuth
+
+abbrev pub elevation-from : Body → Runner → Instant → ℕ → ℤ
+elevation-from body runner start offset = place-from body runner (later start offset) .elevation
 
 -- a buffer after the batch: as it was where the batch is refused
 abbrev pub left-in : BatchAnswer → (ℕ → ℤ) → List ℕ → List ℤ → List ℤ

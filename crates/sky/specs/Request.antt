@@ -9,6 +9,7 @@ use Rattle.numbers.specs.Whole.{between}
 use Rattle.sum_rules.specs.Instant.{day, minus, second, terrestrial-time, universal-time}
 use Rattle.sum_rules.specs.Table.{column}
 use Rattle.sum_rules.specs.declared.instant.Instant.{Instant}
+use Rattle.sky_vectors.specs.SkyRange.{highest-height, latitude-limit, longitude-limit, lowest-height}
 use Rattle.sky_vectors.specs.declared.station.Point.{Point}
 use Rattle.sky.specs.declared.request.Start.{Start}
 
@@ -51,9 +52,9 @@ start-refusals s = date-refusals (date s) ++ (clock-refusals s ++ scale-refusals
 -- 7 to 9: longitude within ±1,800,000,000, latitude within ±900,000,000, height -500 to 9,000 m
 abbrev pub point-refusals : Point → List ℕ
 point-refusals p =
-    7 unless between (minus 1_800_000_000) (p .longitude) (pos 1_800_000_000)
-    ∷ 8 unless between (minus 900_000_000) (p .latitude) (pos 900_000_000)
-    ∷ 9 unless between (minus 500) (p .height) (pos 9_000)
+    7 unless between (minus longitude-limit) (p .longitude) (pos longitude-limit)
+    ∷ 8 unless between (minus latitude-limit) (p .latitude) (pos latitude-limit)
+    ∷ 9 unless between lowest-height (p .height) (pos highest-height)
     ∷ []
 
 -- units of the day that have passed

@@ -1,7 +1,9 @@
 // A batch of places into two lent buffers: nothing is written before every offset is judged.
-use sky_vectors::place::place_at;
+use sky_vectors::place::place_from;
 use sky_vectors::geocentric::Body;
 use sky_vectors::station::Point;
+use sky_vectors::station::Runner;
+use sky_vectors::station::runner_at;
 use super::request::Start;
 use super::request::instant_of;
 use super::request::moved;
@@ -25,8 +27,8 @@ ghost use lib.Dec.{leb};
 ghost use Rattle.numbers.specs.Refusal.{OneAnswer, _unless_, verdict-number};
 ghost use Rattle.sky.specs.Demand3.{SamplesNear};
 ghost use Rattle.sky.specs.Request.{instant};
-ghost use Rattle.sky_vectors.specs.SkyRange.{OnEarth, Reachable};
-ghost use Rattle.sky.specs.Batch.{AllReachable, batch-answer, is-late, first-late, batch, later, filled, azimuth-at, elevation-at, left-in};
+ghost use Rattle.sky_vectors.specs.SkyRange.{Reachable, Standing};
+ghost use Rattle.sky.specs.Batch.{AllReachable, batch-answer, is-late, first-late, batch, later, filled, azimuth-at, elevation-at, azimuth-from, elevation-from, left-in};
 
 // The count, one of 1 to 9 or 12, or the index of the first bad offset (13).
 pub enum Batch {
@@ -81,20 +83,20 @@ fn later(start: Instant, offset: u32) -> Instant
 fn fill(
     table: &[u32; 361],
     body: Body,
-    point: Point,
+    runner: Runner,
     start: Instant,
     offsets: &[u32],
     azimuths: &mut [i64],
     elevations: &mut [i64],
 )
-    requires { ⌜ (now table ≡ sines) × (OnEarth point × AllReachable start (now offsets)) ⌝ }
+    requires { ⌜ (now table ≡ sines) × (Standing runner × AllReachable start (now offsets)) ⌝ }
     requires { ⌜ (length (now offsets) ≤ length (now azimuths)) × (length (now offsets) ≤ length (now elevations)) ⌝ }
-    ensures { λ _. ⌜ now (azimuths .exit) ≡ filled (azimuth-at body point start) (now (offsets .entry)) (now (azimuths .entry)) ⌝ }
-    ensures { λ _. ⌜ now (elevations .exit) ≡ filled (elevation-at body point start) (now (offsets .entry)) (now (elevations .entry)) ⌝ }
+    ensures { λ _. ⌜ now (azimuths .exit) ≡ filled (azimuth-from body runner start) (now (offsets .entry)) (now (azimuths .entry)) ⌝ }
+    ensures { λ _. ⌜ now (elevations .exit) ≡ filled (elevation-from body runner start) (now (offsets .entry)) (now (elevations .entry)) ⌝ }
 {
     let mut i = 0;
     while i < offsets.len() {
-        let place = place_at(table, body, point, later(start, offsets[i]));
+        let place = place_from(table, body, runner, later(start, offsets[i]));
         let azimuth = place.azimuth;
         let elevation = place.elevation;
         azimuths[i] = azimuth;
@@ -128,10 +130,12 @@ pub fn places_at(
     if late < offsets.len() {
         return Batch::Late(late);
     }
+    let table = table();
+    let runner = runner_at(&table, point);
     fill(
-        &table(),
+        &table,
         body,
-        point,
+        runner,
         instant_of(start),
         offsets,
         azimuths,

@@ -6,6 +6,10 @@ use numbers::refusal::Verdict;
 use numbers::refusal::or_else;
 use numbers::refusal::unless;
 use numbers::whole::is_between;
+use sky_vectors::station::HIGHEST_HEIGHT;
+use sky_vectors::station::LATITUDE_LIMIT;
+use sky_vectors::station::LONGITUDE_LIMIT;
+use sky_vectors::station::LOWEST_HEIGHT;
 use sky_vectors::station::Point;
 use sum_rules::instant::DAY;
 use sum_rules::instant::Instant;
@@ -110,13 +114,13 @@ pub fn point_verdict(point: Point) -> Verdict
 {
     let by_longitude = unless(
         Refusal::Longitude,
-        is_between(-1_800_000_000, point.longitude, 1_800_000_000),
+        is_between(-LONGITUDE_LIMIT, point.longitude, LONGITUDE_LIMIT),
     );
     let by_latitude = unless(
         Refusal::Latitude,
-        is_between(-900_000_000, point.latitude, 900_000_000),
+        is_between(-LATITUDE_LIMIT, point.latitude, LATITUDE_LIMIT),
     );
-    let by_height = unless(Refusal::Height, is_between(-500, point.height, 9_000));
+    let by_height = unless(Refusal::Height, is_between(LOWEST_HEIGHT, point.height, HIGHEST_HEIGHT));
     or_else(by_longitude, or_else(by_latitude, by_height))
 }
 

@@ -7,26 +7,26 @@ use borrow.Author.Needs.{needs}
 use mir.Syntax.{w64}
 use mir.Val.{SFits}
 use Rattle.sky.proofs.BatchLaws.{filled-all, filled-none, stored}
-use Rattle.sky.specs.Batch.{azimuth-at, elevation-at, filled, later}
-use Rattle.sky_vectors.specs.Place.{place-at}
+use Rattle.sky.specs.Batch.{azimuth-from, elevation-from, filled, later}
+use Rattle.sky_vectors.specs.Place.{place-from}
 use Rattle.sky_vectors.specs.SkyRange.{Reachable}
 use Rattle.sky_vectors.specs.declared.place.Place.{Place}
 use Rattle.sky.proofs.batch.fill.Statement.{statement}
 use Rattle.sky.proofs.batch.fill.Tie as tie
 
 abbrev Inv-loop : tie.InvT-loop
-Inv-loop table body point start offsets azimuths₀ elevations₀ i₀ azimuths elevations i =
+Inv-loop table body runner start offsets azimuths₀ elevations₀ i₀ azimuths elevations i =
     (i ≤ length offsets)
     × (length azimuths ≡ length azimuths₀)
     × (length elevations ≡ length elevations₀)
-    × (azimuths ≡ filled (azimuth-at body point start) (take i offsets) azimuths₀)
-    × (elevations ≡ filled (elevation-at body point start) (take i offsets) elevations₀)
+    × (azimuths ≡ filled (azimuth-from body runner start) (take i offsets) azimuths₀)
+    × (elevations ≡ filled (elevation-from body runner start) (take i offsets) elevations₀)
 
 abbrev μ-loop : tie.MeasureT-loop
-μ-loop table body point start offsets azimuths₀ elevations₀ i₀ azimuths elevations i = length offsets - i
+μ-loop table body runner start offsets azimuths₀ elevations₀ i₀ azimuths elevations i = length offsets - i
 
 -- the place at i
-module _ (c : tie.After-place-at Inv-loop μ-loop) where
+module _ (c : tie.After-place-from Inv-loop μ-loop) where
   abbrev head : tie.At-loop Inv-loop μ-loop
   head = c .before .before .before .before
 
@@ -36,13 +36,13 @@ module _ (c : tie.After-place-at Inv-loop μ-loop) where
   abbrev offset : ℕ
   offset = getD (s .args .offsets .now) (head .loop .i) 0
 
-  place-is : c .place-at .result ≡ place-at (s .args .body) (s .args .point) (later (s .args .start) offset)
-  place-is = c .place-at .ensures ∙ ap (place-at (s .args .body) (s .args .point)) (c .before .later .ensures)
+  place-is : c .place-from .result ≡ place-from (s .args .body) (s .args .runner) (later (s .args .start) offset)
+  place-is = c .place-from .ensures ∙ ap (place-from (s .args .body) (s .args .runner)) (c .before .later .ensures)
 
-  azimuth-fits : SFits w64 (c .place-at .result .azimuth)
+  azimuth-fits : SFits w64 (c .place-from .result .azimuth)
   azimuth-fits = search needs
 
-  elevation-fits : SFits w64 (c .place-at .result .elevation)
+  elevation-fits : SFits w64 (c .place-from .result .elevation)
   elevation-fits = search needs
 
 loop-holds : tie.Need-loop-holds Inv-loop μ-loop
@@ -51,8 +51,8 @@ loop-holds c =
       zero-le,
       refl,
       refl,
-      filled-none (azimuth-at (a .body) (a .point) (a .start)) (a .offsets .now) (a .azimuths .now),
-      filled-none (elevation-at (a .body) (a .point) (a .start)) (a .offsets .now) (a .elevations .now),
+      filled-none (azimuth-from (a .body) (a .runner) (a .start)) (a .offsets .now) (a .azimuths .now),
+      filled-none (elevation-from (a .body) (a .runner) (a .start)) (a .offsets .now) (a .elevations .now),
     )
 
 mul-later : tie.Need-mul-later Inv-loop μ-loop
@@ -64,8 +64,8 @@ shared-slice-read-later c = search needs
 later-requires : tie.Need-later-requires Inv-loop μ-loop
 later-requires c κs = c .before .before .before .before .pre .0 .1 .1 .each (c .before .before .loop .i) (omega arith)
 
-place-at-requires : tie.Need-place-at-requires Inv-loop μ-loop
-place-at-requires c κs =
+place-from-requires : tie.Need-place-from-requires Inv-loop μ-loop
+place-from-requires c κs =
     let s = c .before .before .before .before .before in
     let near = s .pre .0 .1 .1 .each (c .before .before .before .loop .i) (omega arith) in
     (s .pre .0 .0, (s .pre .0 .1 .0, subst⁻¹ Reachable (c .later .ensures) near))
@@ -102,9 +102,9 @@ loop-again c =
       omega arith,
       simp length-set (at .loop .inv .1),
       simp length-set (at .loop .inv .2),
-      stored (azimuth-at (a .body) (a .point) (a .start)) (a .offsets .now) (a .azimuths .now) i here (s k .pre .1 .0) (at .loop .inv .3)
+      stored (azimuth-from (a .body) (a .runner) (a .start)) (a .offsets .now) (a .azimuths .now) i here (s k .pre .1 .0) (at .loop .inv .3)
           (azimuth-fits k .sfits) (ap (λ (p : Place). p .azimuth) (place-is k)),
-      stored (elevation-at (a .body) (a .point) (a .start)) (a .offsets .now) (a .elevations .now) i here (s k .pre .1 .1) (at .loop .inv .4)
+      stored (elevation-from (a .body) (a .runner) (a .start)) (a .offsets .now) (a .elevations .now) i here (s k .pre .1 .1) (at .loop .inv .4)
           (elevation-fits k .sfits) (ap (λ (p : Place). p .elevation) (place-is k)),
     )
 
@@ -118,11 +118,11 @@ returns : tie.Need-returns Inv-loop μ-loop
 returns c =
     let at = c .before in
     let a = at .before .before .args in (
-      at .loop .inv .3 ∙ filled-all (azimuth-at (a .body) (a .point) (a .start)) (a .offsets .now) (a .azimuths .now) (at .loop .i) (omega arith),
-      at .loop .inv .4 ∙ filled-all (elevation-at (a .body) (a .point) (a .start)) (a .offsets .now) (a .elevations .now) (at .loop .i) (omega arith),
+      at .loop .inv .3 ∙ filled-all (azimuth-from (a .body) (a .runner) (a .start)) (a .offsets .now) (a .azimuths .now) (at .loop .i) (omega arith),
+      at .loop .inv .4 ∙ filled-all (elevation-from (a .body) (a .runner) (a .start)) (a .offsets .now) (a .elevations .now) (at .loop .i) (omega arith),
     )
 
 pub fill-spec : {M : Type 1} → statement M
 fill-spec =
     tie.close
-    (tie.spec Inv-loop μ-loop loop-holds mul-later shared-slice-read-later later-requires place-at-requires mul-azimuth slice-set-from-azimuth mul-elevation slice-set-from-elevation add-i loop-less loop-again same-length same-length-2 returns)
+    (tie.spec Inv-loop μ-loop loop-holds mul-later shared-slice-read-later later-requires place-from-requires mul-azimuth slice-set-from-azimuth mul-elevation slice-set-from-elevation add-i loop-less loop-again same-length same-length-2 returns)

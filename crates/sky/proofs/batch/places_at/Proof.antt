@@ -14,11 +14,14 @@ use Rattle.numbers.proofs.Machine.{passed}
 use Rattle.sky.proofs.BatchLaws.{all-in-time, late-most, one-batch, sample-reachable, utc-small}
 use Rattle.sky.proofs.Demand3.{every-sample-near}
 use Rattle.sky.proofs.RequestLaws.{on-earth, point-passes, rest-passes, start-passes}
-use Rattle.sky.specs.Batch.{AllReachable, azimuth-at, batch, elevation-at, filled, first-late, room-refusals}
+use Rattle.sky.specs.Batch.{AllReachable, azimuth-from, batch, elevation-from, filled, first-late, room-refusals}
 use Rattle.numbers.proofs.RefusalLaws as RefusalLaws
 use Rattle.numbers.proofs.RefusalLaws.{alone, first-one, joined, never-none}
 use Rattle.numbers.specs.Refusal.{_unless_, first, number, verdict-number}
 use Rattle.sky.specs.Request.{instant, point-refusals, start-refusals, utc}
+use Rattle.sky_vectors.proofs.SkySizes.{runner-stands}
+use Rattle.sky_vectors.specs.Place.{place-at}
+use Rattle.sky_vectors.specs.SkyRange.{Standing}
 use Rattle.sky_vectors.specs.declared.station.Point.{Point}
 use Rattle.sky.specs.declared.request.Start.{Start}
 use Rattle.sum_rules.specs.declared.instant.Instant.{Instant}
@@ -91,13 +94,13 @@ module _ (c : tie.After-first-late) where
 -- a batch that 13 lets pass too
 module _ (c : tie.After-instant-of) where
   abbrev late-in : tie.After-first-late
-  late-in = c .before .before .before .before
+  late-in = c .before .before .before .before .before .before
 
   abbrev s₃ : tie.Start
   s₃ = s₂ (e late-in)
 
   none-late : first-late (utc (start s₃)) (offsets s₃) ≡ length (offsets s₃)
-  none-late = omega (arith, late-most (utc (start s₃)) (offsets s₃), late-is late-in, c .before .before .before .if1 .left)
+  none-late = omega (arith, late-most (utc (start s₃)) (offsets s₃), late-is late-in, c .before .before .before .before .before .if1 .left)
 
   all-reachable : AllReachable (instant (start s₃)) (offsets s₃)
   all-reachable =
@@ -156,17 +159,26 @@ returns-2 c =
 table-requires : tie.Need-table-requires
 table-requires c κs = search needs
 
+runner-at-requires : tie.Need-runner-at-requires
+runner-at-requires c κs =
+    let e = e (c .before .before .before) in
+    (c .before .table .ensures, on-earth (point (s₂ e)) (point-good e))
+
 instant-of-requires : tie.Need-instant-of-requires
-instant-of-requires c κs = start-good (c .before .before .before .before .before)
+instant-of-requires c κs = start-good (e (c .before .before .before .before .before))
 
 fill-requires : tie.Need-fill-requires
 fill-requires c κs =
-    let k = late-in (c .before .before) in
-    let e = e k in
-    let sizes = and-yes (leb (length (offsets (s₂ e))) (azimuths (s₂ e))) (leb (length (offsets (s₂ e))) (elevations (s₂ e))) (subst⁻¹ T (room-good e) tt) in (
+    let k = c .before .before in
+    let e = e (late-in k) in
+    let s = s₂ e in
+    let sizes = and-yes (leb (length (offsets s)) (azimuths s)) (leb (length (offsets s)) (elevations s)) (subst⁻¹ T (room-good e) tt) in (
       (
-        c .before .before .before .before .table .ensures,
-        (on-earth (point (s₂ e)) (point-good e), subst⁻¹ (λ (i : Instant). AllReachable i (offsets (s₂ e))) (c .before .before .instant-of .ensures) (all-reachable (c .before .before))),
+        k .before .before .before .before .table .ensures,
+        (
+          subst⁻¹ Standing (k .before .before .runner-at .ensures) (runner-stands (point s) (on-earth (point s) (point-good e))),
+          subst⁻¹ (λ (i : Instant). AllReachable i (offsets s)) (k .instant-of .ensures) (all-reachable k),
+        ),
       ),
       (leb→le _ _ (sizes .0), leb→le _ _ (sizes .1)),
     )
@@ -178,16 +190,17 @@ same-length-2 : tie.Need-same-length-2
 same-length-2 c = search needs
 
 returns-3 : tie.Need-returns-3
-unfolding batch
+unfolding batch place-at
 returns-3 c =
     let k = c .before .before .before .before .before in
     let a = s₃ k .args in
-    let at = k .instant-of .ensures in (
+    let at = k .instant-of .ensures in
+    let stands = k .before .before .runner-at .ensures in (
       one-batch (simp (eq-eqb _ _ (passes (e (late-in k))), eq-eqb _ _ (none-late k))),
       (
-        c .before .before .fill .ensures .0 ∙ ap (λ (i : Instant). filled (azimuth-at (a .body) (a .point) i) (a .offsets .now) (a .azimuths .now)) at,
+        c .before .before .fill .ensures .0 ∙ (λ i. filled (azimuth-from (a .body) (stands i) (at i)) (a .offsets .now) (a .azimuths .now)),
         (
-          c .before .before .fill .ensures .1 ∙ ap (λ (i : Instant). filled (elevation-at (a .body) (a .point) i) (a .offsets .now) (a .elevations .now)) at,
+          c .before .before .fill .ensures .1 ∙ (λ i. filled (elevation-from (a .body) (stands i) (at i)) (a .offsets .now) (a .elevations .now)),
           every-sample-near (a .start) (a .point) (a .offsets .now) (azimuths (s₃ k)) (elevations (s₃ k)),
         ),
       ),
@@ -196,4 +209,4 @@ returns-3 c =
 pub places-at-spec : {M : Type 1} → statement M
 places-at-spec =
     tie.close
-    (tie.spec start-verdict-requires point-verdict-requires room-verdict-requires or-else-requires or-else-requires-2 enum-known-verdict returns enum-told utc-of-requires first-late-requires returns-2 table-requires instant-of-requires fill-requires same-length same-length-2 returns-3)
+    (tie.spec start-verdict-requires point-verdict-requires room-verdict-requires or-else-requires or-else-requires-2 enum-known-verdict returns enum-told utc-of-requires first-late-requires returns-2 table-requires runner-at-requires instant-of-requires fill-requires same-length same-length-2 returns-3)

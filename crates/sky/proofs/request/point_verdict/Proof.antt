@@ -9,6 +9,7 @@ use Rattle.numbers.specs.Refusal.{_unless_}
 use Rattle.numbers.specs.Whole.{between}
 use Rattle.sum_rules.specs.Instant.{minus}
 use Rattle.sky.proofs.RequestLaws.{judged-between}
+use Rattle.sky_vectors.specs.SkyRange.{highest-height, latitude-limit, longitude-limit, lowest-height}
 use Rattle.sky_vectors.specs.declared.station.Point.{Point}
 use borrow.Author.Needs.{needs}
 use Rattle.sky.proofs.request.point_verdict.Statement.{statement}
@@ -25,19 +26,25 @@ module _ (s : tie.Start) where
   height-fits = search needs
 
 abbrev longitude : Point → List ℕ
-longitude p = 7 unless between (minus 1_800_000_000) (p .longitude) (pos 1_800_000_000) ∷ []
+longitude p = 7 unless between (minus longitude-limit) (p .longitude) (pos longitude-limit) ∷ []
 
 abbrev latitude : Point → List ℕ
-latitude p = 8 unless between (minus 900_000_000) (p .latitude) (pos 900_000_000) ∷ []
+latitude p = 8 unless between (minus latitude-limit) (p .latitude) (pos latitude-limit) ∷ []
 
 abbrev height : Point → List ℕ
-height p = 9 unless between (minus 500) (p .height) (pos 9_000) ∷ []
+height p = 9 unless between lowest-height (p .height) (pos highest-height) ∷ []
+
+sub-is-between : tie.Need-sub-is-between
+sub-is-between c = search needs
 
 is-between-requires : tie.Need-is-between-requires
 is-between-requires c κs = search needs
 
 unless-requires : tie.Need-unless-requires
 unless-requires c κs = search needs
+
+sub-is-between-2 : tie.Need-sub-is-between-2
+sub-is-between-2 c = search needs
 
 is-between-requires-2 : tie.Need-is-between-requires-2
 is-between-requires-2 c κs = search needs
@@ -65,17 +72,19 @@ returns c =
     let s = by-longitude .before .before .before in
     let p = s .args .point in
     joined (longitude p) (latitude p ++ height p) (c .or-else2 .ensures)
-    (judged-between 7 (minus 1_800_000_000) (p .longitude) (pos 1_800_000_000) (longitude-fits s) (by-longitude .unless .ensures) (by-longitude .before .is-between .ensures))
+    (judged-between 7 (minus longitude-limit) (p .longitude) (pos longitude-limit) (longitude-fits s) (by-longitude .unless .ensures) (by-longitude .before .is-between .ensures))
     (joined (latitude p) (height p) (c .before .or-else .ensures)
-    (judged-between 8 (minus 900_000_000) (p .latitude) (pos 900_000_000) (latitude-fits s) (by-latitude .unless2 .ensures) (by-latitude .before .is-between2 .ensures))
-    (judged-between 9 (minus 500) (p .height) (pos 9_000) (height-fits s) (by-height .unless3 .ensures) (by-height .before .is-between3 .ensures)))
+    (judged-between 8 (minus latitude-limit) (p .latitude) (pos latitude-limit) (latitude-fits s) (by-latitude .unless2 .ensures) (by-latitude .before .is-between2 .ensures))
+    (judged-between 9 lowest-height (p .height) (pos highest-height) (height-fits s) (by-height .unless3 .ensures) (by-height .before .is-between3 .ensures)))
 
 pub point-verdict-spec : {M : Type 1} → statement M
 point-verdict-spec =
     tie.close
     (tie.spec
+    sub-is-between
     is-between-requires
     unless-requires
+    sub-is-between-2
     is-between-requires-2
     unless-requires-2
     is-between-requires-3
