@@ -9,7 +9,7 @@
 //! height in metres, delta-T in tenths of a second.
 #![forbid(unsafe_code)]
 
-use raddlehue::{places, Body, Place, Point, Start, DEGREE};
+use raddlehue::{places, Body, Place, Point, Start, DEGREE_E8};
 use std::error::Error;
 use std::io::{self, Write};
 use std::process::ExitCode;
@@ -74,7 +74,7 @@ fn line(track: &[Place]) -> String {
     let mut path = String::new();
     let mut last: Option<&Place> = None;
     for place in track {
-        let joins = last.is_some_and(|last| (place.azimuth - last.azimuth).abs() < 180 * DEGREE);
+        let joins = last.is_some_and(|last| (place.azimuth_e8 - last.azimuth_e8).abs() < 180 * DEGREE_E8);
         let (x, y) = spot(place);
         path += &format!("{}{x:.1} {y:.1}", if joins { 'L' } else { 'M' });
         last = Some(place);
@@ -107,7 +107,7 @@ fn drawing() -> Result<String, Box<dyn Error>> {
     };
     let (longitude, latitude): (f64, f64) = (argument(1)?, argument(2)?);
     let point = Point::east_north(longitude, latitude, argument(3)?);
-    let midnight = Start::utc(year, month, day, 0, 0, 0).delta_t(argument(4)?);
+    let midnight = Start::utc(year, month, day, 0, 0, 0).delta_t_tenths(argument(4)?);
 
     // Up to the day's last tenth of a second, since the last day of 2100 has no midnight after it.
     let offsets: Vec<u32> = (0..=24 * 60 / STEP).map(|step| (step * STEP * 600).min(863_999)).collect();
@@ -115,7 +115,7 @@ fn drawing() -> Result<String, Box<dyn Error>> {
     for (body, name, colour) in PATHS {
         tracks.push((name, colour, places(midnight, body, point, &offsets)?));
     }
-    let highest = |track: &[Place]| track.iter().map(|place| place.elevation).max();
+    let highest = |track: &[Place]| track.iter().map(|place| place.elevation_e8).max();
     let sun_above = highest(&tracks[0].2) >= highest(&tracks[1].2);
 
     let (east, north) = (if longitude < 0.0 { 'W' } else { 'E' }, if latitude < 0.0 { 'S' } else { 'N' });

@@ -1,22 +1,33 @@
 //! Why a request is not answered.
 #![forbid(unsafe_code)]
 
-use std::error::Error;
-use std::fmt;
+use core::error::Error;
+use core::fmt;
 
-/// Why a request is not answered, with the units and limits of the number at fault; the first that applies, in this order.
+/// Why a request is not answered: the first reason that applies, in the order in which they are checked.
+///
+/// [`Display`](fmt::Display) writes the sentence of the C header and of `docs/REFUSALS.md`, and after it the index of a [`TooLate`](Refusal::TooLate).
 ///
 /// ```
 /// use raddlehue::{day_count, Refusal};
 ///
 /// let refusal = day_count(1900, 2, 29).unwrap_err();
 /// assert_eq!(refusal, Refusal::Day);
-/// assert_eq!(refusal.number(), 3);
-/// assert_eq!(refusal.to_string(), "refused 3: no such day in that Gregorian month");
+/// assert_eq!(refusal.to_string(), "that month of the Gregorian calendar has no such day");
 /// ```
 #[derive(Clone, Copy, Debug, PartialEq, Eq, Hash)]
 #[non_exhaustive]
 pub enum Refusal {
+    /// 101: the body's code is unknown; a [`Body`](crate::Body) has none such.
+    UnknownBody,
+    /// 102: the air's code is unknown; an [`Air`](crate::Air) has none such.
+    UnknownAir,
+    /// 103: the elevation to refract is not within 9,000,000,000 of 10⁻⁸ degree either way.
+    NoElevation,
+    /// 104: the instant of a sum is not within 31,904,733,600 tenths of a second (101.1 years) of 2000-01-01 12:00.
+    OutOfReach,
+    /// 16: a line that a program reads is not whole numbers with single spaces; no function of this package gives it.
+    NotALine,
     /// 1: the year (Gregorian, UTC) is not 1900 to 2100.
     Year,
     /// 2: the month (Gregorian, UTC) is not 1 to 12.
@@ -46,90 +57,126 @@ pub enum Refusal {
         /// Which offset is the first such, counted from 0.
         index: usize,
     },
+    /// 15: an azimuth is not 0 to 35,999,999,999 of 10⁻⁸ degree.
+    NotReduced,
     /// 14: the two azimuths lie exactly half a turn apart, and have no middle.
     Opposite,
-    /// 15: an azimuth is not 0 to 35,999,999,999 of 10⁻⁸ degree; judged before 14.
-    NotReduced,
-    /// 103: the elevation to refract is not within 9,000,000,000 of 10⁻⁸ degree either way; judged before the air.
-    NoElevation,
     /// A number that this package has no name for: the archive is newer.
-    Other(u8),
+    Other(u32),
 }
 
+// All that have a name, in the order of the checks.
+const NAMED: [Refusal; 20] = [
+    Refusal::UnknownBody,
+    Refusal::UnknownAir,
+    Refusal::NoElevation,
+    Refusal::OutOfReach,
+    Refusal::NotALine,
+    Refusal::Year,
+    Refusal::Month,
+    Refusal::Day,
+    Refusal::Clock,
+    Refusal::Ut1,
+    Refusal::DeltaT,
+    Refusal::Longitude,
+    Refusal::Latitude,
+    Refusal::Height,
+    Refusal::Pressure,
+    Refusal::Temperature,
+    Refusal::ShortBuffer,
+    Refusal::TooLate { index: 0 },
+    Refusal::NotReduced,
+    Refusal::Opposite,
+];
+
 impl Refusal {
-    /// The refusal's number, as C has it and as [`Display`](fmt::Display) writes it; never 0.
-    pub const fn number(self) -> u8 {
+    // Number, name and sentence; tests/refusals.rs reads these rows against docs/REFUSALS.md.
+    const fn row(self) -> (u32, &'static str, &'static str) {
         match self {
-            Refusal::Year => 1,
-            Refusal::Month => 2,
-            Refusal::Day => 3,
-            Refusal::Clock => 4,
-            Refusal::Ut1 => 5,
-            Refusal::DeltaT => 6,
-            Refusal::Longitude => 7,
-            Refusal::Latitude => 8,
-            Refusal::Height => 9,
-            Refusal::Pressure => 10,
-            Refusal::Temperature => 11,
-            Refusal::ShortBuffer => 12,
-            Refusal::TooLate { .. } => 13,
-            Refusal::Opposite => 14,
-            Refusal::NotReduced => 15,
-            Refusal::NoElevation => 103,
-            Refusal::Other(number) => number,
+            Refusal::UnknownBody => (101, "UNKNOWN_BODY", "the body is neither Sun nor Moon"),
+            Refusal::UnknownAir => (102, "UNKNOWN_AIR", "the air is none of none, standard and measured"),
+            Refusal::NoElevation => (103, "NO_ELEVATION", "the elevation is not within 90 degrees"),
+            Refusal::OutOfReach => {
+                (104, "OUT_OF_REACH", "the instant is not within 31,904,733,600 tenths of a second of 2000-01-01 12:00")
+            }
+            Refusal::NotALine => (16, "NOT_A_LINE", "the line is not whole numbers with single spaces"),
+            Refusal::Year => (1, "YEAR", "the year is not 1900 to 2100"),
+            Refusal::Month => (2, "MONTH", "the month is not 1 to 12"),
+            Refusal::Day => (3, "DAY", "that month of the Gregorian calendar has no such day"),
+            Refusal::Clock => {
+                (4, "CLOCK", "the time of the day is not hour 0 to 23, minute 0 to 59, second 0 to 59, tenth 0 to 9")
+            }
+            Refusal::Ut1 => (5, "UT1", "UT1 minus UTC is not -9 to 9 tenths of a second"),
+            Refusal::DeltaT => (6, "DELTA_T", "delta-T is not -80,000 to 80,000 tenths of a second"),
+            Refusal::Longitude => (7, "LONGITUDE", "the longitude is not within 180 degrees"),
+            Refusal::Latitude => (8, "LATITUDE", "the latitude is not within 90 degrees"),
+            Refusal::Height => (9, "HEIGHT", "the height is not -500 to 9,000 metres"),
+            Refusal::Pressure => (10, "PRESSURE", "the measured pressure is not 0 to 1200 mbar"),
+            Refusal::Temperature => (11, "TEMPERATURE", "the measured temperature is not -80 to 80 degrees Celsius"),
+            Refusal::ShortBuffer => (12, "SHORT_BUFFER", "a buffer is shorter than the list of offsets"),
+            Refusal::TooLate { .. } => (13, "TOO_LATE", "a start plus offset lies after 2100-12-31 23:59:59.9 UTC"),
+            Refusal::NotReduced => (15, "NOT_REDUCED", "an azimuth is not from 0 up to but not 360 degrees"),
+            Refusal::Opposite => (14, "OPPOSITE", "two azimuths half a turn apart have no middle"),
+            Refusal::Other(number) => (number, "UNKNOWN", "unknown refusal"),
         }
+    }
+
+    /// The refusal's number, as C has it; never 0.
+    ///
+    /// ```
+    /// assert_eq!(raddlehue::Refusal::Day.number(), 3);
+    /// ```
+    #[must_use]
+    pub const fn number(self) -> u32 {
+        self.row().0
+    }
+
+    /// The refusal's name, as C has it after `RADDLEHUE_`.
+    ///
+    /// ```
+    /// assert_eq!(raddlehue::Refusal::ShortBuffer.name(), "SHORT_BUFFER");
+    /// ```
+    #[must_use]
+    pub const fn name(self) -> &'static str {
+        self.row().1
+    }
+
+    /// The refusal in words, as C has them; the index of a [`TooLate`](Refusal::TooLate) is not in them.
+    ///
+    /// ```
+    /// assert_eq!(raddlehue::Refusal::Year.sentence(), "the year is not 1900 to 2100");
+    /// ```
+    #[must_use]
+    pub const fn sentence(self) -> &'static str {
+        self.row().2
     }
 }
 
 impl fmt::Display for Refusal {
     fn fmt(&self, f: &mut fmt::Formatter<'_>) -> fmt::Result {
-        write!(f, "refused {}: ", self.number())?;
         match self {
-            Refusal::Year => f.write_str("the year is not 1900 to 2100"),
-            Refusal::Month => f.write_str("the month is not 1 to 12"),
-            Refusal::Day => f.write_str("no such day in that Gregorian month"),
-            Refusal::Clock => f.write_str("no such hour, minute, second and tenth"),
-            Refusal::Ut1 => f.write_str("UT1 minus UTC is not -9 to 9 tenths of a second"),
-            Refusal::DeltaT => f.write_str("delta-T is not -80000 to 80000 tenths of a second"),
-            Refusal::Longitude => f.write_str("the longitude is not within 180 degrees either way"),
-            Refusal::Latitude => f.write_str("the latitude is not within 90 degrees either way"),
-            Refusal::Height => f.write_str("the height is not -500 to 9000 metres"),
-            Refusal::Pressure => f.write_str("the pressure is not 0 to 1200 mbar"),
-            Refusal::Temperature => f.write_str("the temperature is not -80 to 80 °C"),
-            Refusal::ShortBuffer => f.write_str("a buffer is shorter than the list of offsets"),
-            Refusal::TooLate { index } => write!(f, "offset {index} leads past 2100-12-31 23:59:59.9 UTC"),
-            Refusal::Opposite => f.write_str("azimuths half a turn apart have no middle"),
-            Refusal::NotReduced => f.write_str("an azimuth is not 0 up to a whole turn"),
-            Refusal::NoElevation => f.write_str("the elevation is not within 90 degrees either way"),
-            Refusal::Other(_) => f.write_str("for a reason that this package does not know"),
+            Refusal::TooLate { index } => write!(f, "{} (index {index})", self.sentence()),
+            Refusal::Other(number) => write!(f, "{} {number}", self.sentence()),
+            _ => f.pad(self.sentence()),
         }
     }
 }
 
 impl Error for Refusal {}
 
-/// The archive's number, where 0 accepts; the index is read for 13 only.
-pub(crate) const fn judge(number: u8, index: usize) -> Result<(), Refusal> {
-    Err(match number {
-        0 => return Ok(()),
-        1 => Refusal::Year,
-        2 => Refusal::Month,
-        3 => Refusal::Day,
-        4 => Refusal::Clock,
-        5 => Refusal::Ut1,
-        6 => Refusal::DeltaT,
-        7 => Refusal::Longitude,
-        8 => Refusal::Latitude,
-        9 => Refusal::Height,
-        10 => Refusal::Pressure,
-        11 => Refusal::Temperature,
-        12 => Refusal::ShortBuffer,
-        13 => Refusal::TooLate { index },
-        14 => Refusal::Opposite,
-        15 => Refusal::NotReduced,
-        103 => Refusal::NoElevation,
-        other => Refusal::Other(other),
-    })
+/// The archive's number, where 0 accepts.
+pub(crate) fn judge(number: u32) -> Result<(), Refusal> {
+    if number == 0 {
+        return Ok(());
+    }
+    Err(NAMED.into_iter().find(|refusal| refusal.number() == number).unwrap_or(Refusal::Other(number)))
+}
+
+/// What an export writes, begun with zeros, or its refusal.
+pub(crate) fn answer<T: Default>(export: impl FnOnce(&mut T) -> u32) -> Result<T, Refusal> {
+    let mut written = T::default();
+    judge(export(&mut written))?;
+    Ok(written)
 }
 
 #[cfg(test)]
@@ -138,10 +185,11 @@ mod tests {
 
     #[test]
     fn every_number_is_itself_again() {
-        assert_eq!(judge(0, 7), Ok(()));
-        for number in 1..=u8::MAX {
-            assert_eq!(judge(number, 7).map_err(Refusal::number), Err(number));
+        assert_eq!(judge(0), Ok(()));
+        for number in (1..1000).chain([u32::MAX]) {
+            assert_eq!(judge(number).map_err(Refusal::number), Err(number));
         }
-        assert_eq!(judge(13, 7), Err(Refusal::TooLate { index: 7 }));
+        let named = (1..=u8::MAX).filter(|&number| judge(number.into()) != Err(Refusal::Other(number.into())));
+        assert_eq!(named.count(), NAMED.len());
     }
 }

@@ -1,94 +1,134 @@
-//! The sums at one instant, which the places are made of.
+//! Dates and instants, and the sums at one instant, which the places are made of.
 #![forbid(unsafe_code)]
 
-use crate::archive;
+use crate::refusal::answer;
+use crate::{archive, Refusal, Start};
 
-/// The Moon from the Earth's centre before nutation: ecliptic longitude eastward and latitude northward in 10⁻⁸ degree, metres.
-#[derive(Clone, Copy, Debug, PartialEq, Eq, Hash)]
+/// Days from 2000-01-01 to a date of the Gregorian calendar, 1900 to 2100, negative before.
+///
+/// # Errors
+/// [`Year`](Refusal::Year), [`Month`](Refusal::Month) and [`Day`](Refusal::Day), 1 to 3, in this order.
+///
+/// ```
+/// assert_eq!(raddlehue::day_count(2000, 2, 29), Ok(59));
+/// ```
+pub fn day_count(year: i64, month: i64, day: i64) -> Result<i64, Refusal> {
+    answer(|days| archive::raddlehue_day_count(year, month, day, days))
+}
+
+/// A moment in both scales, in tenths of a second from 2000-01-01 12:00 of each: UT turns the Earth, TT moves the Sun and the Moon.
+#[repr(C)]
+#[derive(Clone, Copy, Debug, Default, PartialEq, Eq, Hash)]
+pub struct Instant {
+    /// UT1, which [`mean_sidereal`] takes.
+    pub ut_tenths: i64,
+    /// TT, which the other sums take: delta-T more.
+    pub tt_tenths: i64,
+}
+
+/// The start's UT1 and TT, in tenths of a second from 2000-01-01 12:00.
+///
+/// # Errors
+/// [`Year`](Refusal::Year) to [`DeltaT`](Refusal::DeltaT), 1 to 6, in this order.
+///
+/// ```
+/// use raddlehue::{instant, Instant, Start};
+///
+/// let start = Start::utc(2000, 1, 1, 12, 0, 1).ut1_tenths(3).delta_t_tenths(638);
+/// assert_eq!(instant(start), Ok(Instant { ut_tenths: 13, tt_tenths: 651 }));
+/// ```
+pub fn instant(start: Start) -> Result<Instant, Refusal> {
+    answer(|instant| archive::raddlehue_instant(&start, instant))
+}
+
+/// The Moon from the Earth's centre before nutation: ecliptic longitude eastward and latitude northward, and distance.
+#[repr(C)]
+#[derive(Clone, Copy, Debug, Default, PartialEq, Eq, Hash)]
 pub struct MoonSums {
     /// 10⁻⁸ degree eastward from the mean equinox of date, 0 to 35,999,999,999.
-    pub longitude: i64,
+    pub longitude_e8: i64,
     /// 10⁻⁸ degree from the ecliptic, north positive.
-    pub latitude: i64,
+    pub latitude_e8: i64,
     /// Metres from the Earth's centre.
-    pub metres: i64,
+    pub distance_metres: i64,
 }
 
-/// The Earth from the Sun's centre: ecliptic longitude eastward and latitude northward in 10⁻¹⁰ radian, radius in 10⁻¹⁰ AU.
-#[derive(Clone, Copy, Debug, PartialEq, Eq, Hash)]
+/// The Earth from the Sun's centre: ecliptic longitude eastward and latitude northward, and radius.
+#[repr(C)]
+#[derive(Clone, Copy, Debug, Default, PartialEq, Eq, Hash)]
 pub struct SunSums {
     /// 10⁻¹⁰ radian eastward from the mean equinox of date, with no turn taken off; the Sun as we see it stands half a turn on.
-    pub longitude: i64,
+    pub longitude_radians_e10: i64,
     /// 10⁻¹⁰ radian from the ecliptic, north positive.
-    pub latitude: i64,
+    pub latitude_radians_e10: i64,
     /// 10⁻¹⁰ AU from the Sun's centre.
-    pub radius: i64,
+    pub radius_au_e10: i64,
 }
 
-/// Nutation in longitude (Δψ, eastward) and in obliquity (Δε), and the true obliquity of the ecliptic, in 10⁻⁸ degree.
-#[derive(Clone, Copy, Debug, PartialEq, Eq, Hash)]
+/// Nutation in longitude (Δψ, eastward) and in obliquity (Δε), and the true obliquity of the ecliptic.
+#[repr(C)]
+#[derive(Clone, Copy, Debug, Default, PartialEq, Eq, Hash)]
 pub struct Nutation {
     /// Δψ in 10⁻⁸ degree, eastward positive.
-    pub longitude: i64,
+    pub longitude_e8: i64,
     /// Δε in 10⁻⁸ degree, positive where the obliquity grows.
-    pub obliquity: i64,
+    pub obliquity_e8: i64,
     /// The mean obliquity plus Δε, in 10⁻⁸ degree.
-    pub true_obliquity: i64,
+    pub true_obliquity_e8: i64,
 }
 
-/// The Moon before nutation, in 10⁻⁸ degree and metres, at TT (not UTC) in tenths of a second from 2000-01-01 12:00 TT.
+/// The Moon before nutation, at TT (not UTC) in tenths of a second from 2000-01-01 12:00 TT, as [`instant`] gives it.
 ///
-/// `None` beyond 31,904,733,600 tenths (101.1 years) either way. [`day_count`](crate::day_count) says how to come by TT.
+/// # Errors
+/// [`OutOfReach`](Refusal::OutOfReach), 104, beyond 31,904,733,600 tenths (101.1 years) either way.
 ///
 /// ```
-/// use raddlehue::{moon_sums, DEGREE};
+/// use raddlehue::{moon_sums, Refusal, DEGREE_E8};
 ///
-/// let moon = moon_sums(0).unwrap();
-/// assert_eq!((moon.longitude / DEGREE, moon.metres), (223, 402_444_812));
-/// assert_eq!(moon_sums(i64::MIN), None);
+/// let moon = moon_sums(0)?;
+/// assert_eq!((moon.longitude_e8 / DEGREE_E8, moon.distance_metres), (223, 402_444_812));
+/// assert_eq!(moon_sums(i64::MIN), Err(Refusal::OutOfReach));
+/// # Ok::<(), raddlehue::Refusal>(())
 /// ```
-pub fn moon_sums(tt: i64) -> Option<MoonSums> {
-    let sums = archive::raddlehue_moon_sums(tt);
-    (sums.within == 1).then_some(MoonSums { longitude: sums.longitude as i64, latitude: sums.latitude, metres: sums.metres })
+pub fn moon_sums(tt_tenths: i64) -> Result<MoonSums, Refusal> {
+    answer(|sums| archive::raddlehue_moon_sums(tt_tenths, sums))
 }
 
-/// The Earth around the Sun, in 10⁻¹⁰ radian and AU, at TT (not UTC) in tenths of a second from 2000-01-01 12:00 TT.
+/// The Earth around the Sun, at TT (not UTC) in tenths of a second from 2000-01-01 12:00 TT, as [`instant`] gives it.
 ///
-/// `None` beyond 31,904,733,600 tenths (101.1 years) either way. [`day_count`](crate::day_count) says how to come by TT.
+/// # Errors
+/// [`OutOfReach`](Refusal::OutOfReach), 104, beyond 31,904,733,600 tenths (101.1 years) either way.
 ///
 /// ```
-/// let earth = raddlehue::sun_sums(0).unwrap();
-/// assert_eq!(earth.radius, 9_833_275_804);
+/// assert_eq!(raddlehue::sun_sums(0)?.radius_au_e10, 9_833_275_804);
+/// # Ok::<(), raddlehue::Refusal>(())
 /// ```
-pub fn sun_sums(tt: i64) -> Option<SunSums> {
-    let sums = archive::raddlehue_sun_sums(tt);
-    (sums.within == 1).then_some(SunSums { longitude: sums.longitude, latitude: sums.latitude, radius: sums.radius })
+pub fn sun_sums(tt_tenths: i64) -> Result<SunSums, Refusal> {
+    answer(|sums| archive::raddlehue_sun_sums(tt_tenths, sums))
 }
 
-/// Nutation and true obliquity, in 10⁻⁸ degree, at TT (not UTC) in tenths of a second from 2000-01-01 12:00 TT.
+/// Nutation and true obliquity, at TT (not UTC) in tenths of a second from 2000-01-01 12:00 TT, as [`instant`] gives it.
 ///
-/// `None` beyond 31,904,733,600 tenths (101.1 years) either way. [`day_count`](crate::day_count) says how to come by TT.
+/// # Errors
+/// [`OutOfReach`](Refusal::OutOfReach), 104, beyond 31,904,733,600 tenths (101.1 years) either way.
 ///
 /// ```
-/// assert_eq!(raddlehue::nutation(0).unwrap().true_obliquity, 2_343_768_724);
+/// assert_eq!(raddlehue::nutation(0)?.true_obliquity_e8, 2_343_768_724);
+/// # Ok::<(), raddlehue::Refusal>(())
 /// ```
-pub fn nutation(tt: i64) -> Option<Nutation> {
-    let sums = archive::raddlehue_nutation(tt);
-    (sums.within == 1).then_some(Nutation {
-        longitude: sums.longitude,
-        obliquity: sums.obliquity,
-        true_obliquity: sums.true_obliquity,
-    })
+pub fn nutation(tt_tenths: i64) -> Result<Nutation, Refusal> {
+    answer(|nutation| archive::raddlehue_nutation(tt_tenths, nutation))
 }
 
-/// Mean sidereal time at Greenwich, eastward in 10⁻⁸ degree, at UT1 (not UTC, not TT) in tenths of a second from 2000-01-01 12:00 UT1.
+/// Mean sidereal time at Greenwich, eastward in 10⁻⁸ degree, 0 to 35,999,999,999, at UT1 (not UTC, not TT) in tenths of a second from 2000-01-01 12:00 UT1,
+/// as [`instant`] gives it.
 ///
-/// It is 0 to 35,999,999,999, and `None` beyond 31,904,733,600 tenths (101.1 years) either way. [`day_count`](crate::day_count) says how to come by UT1.
+/// # Errors
+/// [`OutOfReach`](Refusal::OutOfReach), 104, beyond 31,904,733,600 tenths (101.1 years) either way.
 ///
 /// ```
-/// assert_eq!(raddlehue::mean_sidereal_time(0), Some(28_046_061_837));
+/// assert_eq!(raddlehue::mean_sidereal(0), Ok(28_046_061_837));
 /// ```
-pub fn mean_sidereal_time(ut1: i64) -> Option<i64> {
-    let sidereal = archive::raddlehue_mean_sidereal(ut1);
-    (sidereal.within == 1).then_some(sidereal.mean as i64)
+pub fn mean_sidereal(ut_tenths: i64) -> Result<i64, Refusal> {
+    answer(|sidereal_e8| archive::raddlehue_mean_sidereal(ut_tenths, sidereal_e8))
 }

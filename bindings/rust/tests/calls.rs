@@ -2,11 +2,16 @@
 #![forbid(unsafe_code)]
 
 use raddlehue::*;
+use std::time::{Duration, SystemTime, UNIX_EPOCH};
 
 // 004, Appendix A.5, whose height is 1830.14 m.
-const START: Start = Start::utc(2003, 10, 17, 19, 30, 30).delta_t(670);
-const POINT: Point = Point { longitude: -1_051_786_000, latitude: 397_424_760, height: 1830 };
-const AIR: Air = Air::Measured { pressure: 820.0, temperature: 11.0 };
+const START: Start = Start::utc(2003, 10, 17, 19, 30, 30).delta_t_tenths(670);
+const POINT: Point = Point { longitude_e7: -1_051_786_000, latitude_e7: 397_424_760, height_metres: 1830 };
+const AIR: Air = measured(820.0, 11.0);
+
+const fn measured(pressure_mbar: f64, temperature_celsius: f64) -> Air {
+    Air::Measured { pressure_mbar, temperature_celsius }
+}
 
 fn near(found: f64, printed: f64) {
     assert!((found - printed).abs() < 0.000_015, "{found} is not {printed}");
@@ -17,12 +22,12 @@ fn near(found: f64, printed: f64) {
 #[test]
 fn example_of_the_report() {
     let shown = shown_place(START, Body::Sun, POINT, AIR).unwrap();
-    near(shown.azimuth, 194.34024);
-    near(90.0 - shown.elevation, 50.11162);
+    near(shown.azimuth_degrees, 194.34024);
+    near(90.0 - shown.elevation_degrees, 50.11162);
     let place = place(START, Body::Sun, POINT, AIR).unwrap();
-    assert_eq!(place.azimuth_degrees(), shown.azimuth);
-    assert_eq!(place.elevation_degrees() + shown.refraction, shown.elevation);
-    assert_eq!(refraction(place.elevation, AIR), Ok(shown.refraction));
+    assert_eq!(place.azimuth_degrees(), shown.azimuth_degrees);
+    assert_eq!(place.elevation_degrees() + shown.refraction_degrees, shown.elevation_degrees);
+    assert_eq!(refraction(place.elevation_e8, AIR), Ok(shown.refraction_degrees));
 }
 
 #[test]
@@ -34,8 +39,8 @@ fn the_moon_is_no_sun() {
 #[test]
 fn airs() {
     let lifted = |air| shown_place(START, Body::Sun, POINT, air).unwrap();
-    assert_eq!(lifted(Air::None).refraction, 0.0);
-    assert_eq!(lifted(Air::Standard), lifted(Air::Measured { pressure: 1010.0, temperature: 10.0 }));
+    assert_eq!(lifted(Air::None).refraction_degrees, 0.0);
+    assert_eq!(lifted(Air::Standard), lifted(measured(1010.0, 10.0)));
     assert_eq!(place(START, Body::Sun, POINT, Air::None), place(START, Body::Sun, POINT, AIR));
 }
 
@@ -58,26 +63,39 @@ fn points_in_degrees() {
     }
 }
 
+// The package rounds without `std`: around halves, and all over, it has to round as `std` does.
+#[test]
+fn degrees_are_rounded_to_the_nearest() {
+    let halves = (-200..200).map(|units| f64::from(units) * 0.5e-7);
+    let steps = (0..100_000).map(|i| (f64::from(i) - 50_000.0) * 0.003_600_000_723_1);
+    let odd = [0.0, -0.0, 4.999_999_999_999_999e-8, 1e300, -1e300, 9.2e11, 9.3e11, f64::MIN_POSITIVE];
+    for degrees in halves.chain(steps).chain(odd) {
+        let point = Point::east_north(degrees, -degrees, 0);
+        let rounded = (degrees * 1e7).round() as i64;
+        assert_eq!(point.longitude_e7, rounded, "{degrees:e}");
+        assert_eq!(point.latitude_e7, (-degrees * 1e7).round() as i64, "{degrees:e}");
+    }
+}
+
 // ---- refusals
 
 #[test]
 fn each_refusal_of_a_request() {
-    let air = |pressure, temperature| Air::Measured { pressure, temperature };
     let requests = [
         (Start { year: 2101, ..START }, POINT, AIR, Refusal::Year),
         (Start { month: 13, ..START }, POINT, AIR, Refusal::Month),
         (Start { day: 32, ..START }, POINT, AIR, Refusal::Day),
         (Start { second: 60, ..START }, POINT, AIR, Refusal::Clock),
-        (START.tenth(10), POINT, AIR, Refusal::Clock),
-        (START.ut1(10), POINT, AIR, Refusal::Ut1),
-        (START.delta_t(-80_001), POINT, AIR, Refusal::DeltaT),
-        (START, Point { longitude: 1_800_000_001, ..POINT }, AIR, Refusal::Longitude),
-        (START, Point { latitude: 900_000_001, ..POINT }, AIR, Refusal::Latitude),
-        (START, Point { height: 9_001, ..POINT }, AIR, Refusal::Height),
-        (START, POINT, air(1200.5, 11.0), Refusal::Pressure),
-        (START, POINT, air(f64::NAN, 11.0), Refusal::Pressure),
-        (START, POINT, air(820.0, -81.0), Refusal::Temperature),
-        (START, POINT, air(820.0, f64::NAN), Refusal::Temperature),
+        (START.fraction_tenths(10), POINT, AIR, Refusal::Clock),
+        (START.ut1_tenths(10), POINT, AIR, Refusal::Ut1),
+        (START.delta_t_tenths(-80_001), POINT, AIR, Refusal::DeltaT),
+        (START, Point { longitude_e7: 1_800_000_001, ..POINT }, AIR, Refusal::Longitude),
+        (START, Point { latitude_e7: 900_000_001, ..POINT }, AIR, Refusal::Latitude),
+        (START, Point { height_metres: 9_001, ..POINT }, AIR, Refusal::Height),
+        (START, POINT, measured(1200.5, 11.0), Refusal::Pressure),
+        (START, POINT, measured(f64::NAN, 11.0), Refusal::Pressure),
+        (START, POINT, measured(820.0, -81.0), Refusal::Temperature),
+        (START, POINT, measured(820.0, f64::NAN), Refusal::Temperature),
     ];
     for (start, point, air, refusal) in requests {
         for body in [Body::Sun, Body::Moon] {
@@ -86,16 +104,21 @@ fn each_refusal_of_a_request() {
             if refusal.number() < Refusal::Pressure.number() {
                 assert_eq!(places(start, body, point, &[]), Err(refusal));
             }
+            if refusal.number() < Refusal::Longitude.number() {
+                assert_eq!(instant(start), Err(refusal));
+            }
         }
     }
 }
 
 #[test]
 fn the_first_refusal_is_given() {
-    let worst =
-        Start::utc(i64::MIN, i64::MAX, i64::MIN, i64::MAX, i64::MIN, i64::MAX).tenth(i64::MIN).ut1(i64::MAX).delta_t(i64::MIN);
-    let nowhere = Point { longitude: i64::MIN, latitude: i64::MAX, height: i64::MIN };
-    let air = Air::Measured { pressure: f64::NAN, temperature: f64::NAN };
+    let worst = Start::utc(i64::MIN, i64::MAX, i64::MIN, i64::MAX, i64::MIN, i64::MAX)
+        .fraction_tenths(i64::MIN)
+        .ut1_tenths(i64::MAX)
+        .delta_t_tenths(i64::MIN);
+    let nowhere = Point { longitude_e7: i64::MIN, latitude_e7: i64::MAX, height_metres: i64::MIN };
+    let air = measured(f64::NAN, f64::NAN);
     assert_eq!(place(worst, Body::Sun, nowhere, air), Err(Refusal::Year));
     assert_eq!(shown_place(START, Body::Moon, nowhere, air), Err(Refusal::Longitude));
     assert_eq!(shown_place(START, Body::Moon, POINT, air), Err(Refusal::Pressure));
@@ -105,7 +128,10 @@ fn the_first_refusal_is_given() {
 #[test]
 fn refusals_are_errors() {
     let late: Box<dyn std::error::Error> = Refusal::TooLate { index: 144 }.into();
-    assert_eq!(late.to_string(), "refused 13: offset 144 leads past 2100-12-31 23:59:59.9 UTC");
+    assert_eq!(late.to_string(), "a start plus offset lies after 2100-12-31 23:59:59.9 UTC (index 144)");
+    let year = Refusal::Year;
+    assert_eq!((year.number(), year.name(), year.sentence()), (1, "YEAR", "the year is not 1900 to 2100"));
+    assert_eq!(year.to_string(), year.sentence());
 }
 
 // ---- batches
@@ -114,12 +140,12 @@ fn refusals_are_errors() {
 fn entries_are_places() {
     let offsets = [0, 36_000, 5];
     let found = places(START, Body::Moon, POINT, &offsets).unwrap();
-    let starts = [START, Start { hour: 20, ..START }, START.tenth(5)];
+    let starts = [START, Start { hour: 20, ..START }, START.fraction_tenths(5)];
     assert_eq!(found, starts.map(|start| place(start, Body::Moon, POINT, Air::None).unwrap()));
     let (mut azimuths, mut elevations) = ([-7; 4], [-8; 5]);
     assert_eq!(places_into(START, Body::Moon, POINT, &offsets, &mut azimuths, &mut elevations), Ok(3));
-    assert_eq!(azimuths, [found[0].azimuth, found[1].azimuth, found[2].azimuth, -7]);
-    assert_eq!(elevations, [found[0].elevation, found[1].elevation, found[2].elevation, -8, -8]);
+    assert_eq!(azimuths, [found[0].azimuth_e8, found[1].azimuth_e8, found[2].azimuth_e8, -7]);
+    assert_eq!(elevations, [found[0].elevation_e8, found[1].elevation_e8, found[2].elevation_e8, -8, -8]);
 }
 
 #[test]
@@ -149,26 +175,37 @@ fn no_offsets_no_places() {
     assert_eq!(places_into(START, Body::Sun, POINT, &[], &mut [], &mut []), Ok(0));
 }
 
-// ---- azimuths, refraction, days, sums
+// ---- azimuths, refraction, numbers
 
 #[test]
 fn middles() {
-    assert_eq!(middle_of_azimuths(35_990_000_000, 10_000_000), Ok(0));
-    assert_eq!(middle_of_azimuths(10, 13), Ok(11));
-    assert_eq!(middle_of_azimuths(0, 18_000_000_000), Err(Refusal::Opposite));
+    assert_eq!(middle(35_990_000_000, 10_000_000), Ok(0));
+    assert_eq!(middle(10, 13), Ok(11));
+    assert_eq!(middle(0, 18_000_000_000), Err(Refusal::Opposite));
     for x in [i64::MIN, -1, 36_000_000_000, i64::MAX] {
-        assert_eq!(middle_of_azimuths(x, 0), Err(Refusal::NotReduced));
-        assert_eq!(middle_of_azimuths(0, x), Err(Refusal::NotReduced));
+        assert_eq!(middle(x, 0), Err(Refusal::NotReduced));
+        assert_eq!(middle(0, x), Err(Refusal::NotReduced));
     }
 }
 
 #[test]
 fn refractions() {
     assert_eq!(refraction(-1, Air::Standard), Ok(0.0));
-    assert_eq!(refraction(90 * DEGREE + 1, Air::None), Err(Refusal::NoElevation));
-    let hot = Air::Measured { pressure: 1010.0, temperature: 80.5 };
-    assert_eq!(refraction(0, hot), Err(Refusal::Temperature));
+    assert_eq!(refraction(90 * DEGREE_E8 + 1, Air::None), Err(Refusal::NoElevation));
+    assert_eq!(refraction(0, measured(1010.0, 80.5)), Err(Refusal::Temperature));
 }
+
+#[test]
+fn numbers() {
+    assert_eq!((sine(270 * DEGREE_E8), cosine(0)), (-1_000_000_000, 1_000_000_000));
+    assert_eq!((arctangent(0, 0), arctangent(-4_080_956_101_403_165_189, 139_721_335)), (0, 27_000_000_007));
+    for square in [0, 1, 3, 4, u64::MAX] {
+        let root = root(square);
+        assert!(root * root <= square && (root + 1).checked_mul(root + 1).is_none_or(|above| above > square));
+    }
+}
+
+// ---- dates, instants and sums
 
 #[test]
 fn days() {
@@ -179,19 +216,89 @@ fn days() {
     assert_eq!(day_count(2100, 2, 29), Err(Refusal::Day));
 }
 
+// A start plus offset is an instant too; the sums are the same wherever they are asked for.
+#[test]
+fn instants() {
+    let noon = Start::utc(2000, 1, 1, 12, 0, 0);
+    assert_eq!(instant(noon), Ok(Instant { ut_tenths: 0, tt_tenths: 0 }));
+    let later = Start::utc(2000, 1, 2, 12, 0, 0).fraction_tenths(7).ut1_tenths(-9).delta_t_tenths(638);
+    assert_eq!(instant(later), Ok(Instant { ut_tenths: 863_998, tt_tenths: 864_636 }));
+}
+
 #[test]
 fn sums() {
-    let moon = MoonSums { longitude: 22_331_871_102, latitude: 517_128_006, metres: 402_444_812 };
-    let sun = SunSums { longitude: 17_519_226_963, latitude: -33_050, radius: 9_833_275_804 };
-    let nods = Nutation { longitude: -386_755, obliquity: -160_387, true_obliquity: 2_343_768_724 };
-    assert_eq!((moon_sums(0), sun_sums(0), nutation(0)), (Some(moon), Some(sun), Some(nods)));
-    assert_eq!(mean_sidereal_time(-864_000), Some(27_947_497_100));
+    let moon = MoonSums { longitude_e8: 22_331_871_102, latitude_e8: 517_128_006, distance_metres: 402_444_812 };
+    let sun = SunSums { longitude_radians_e10: 17_519_226_963, latitude_radians_e10: -33_050, radius_au_e10: 9_833_275_804 };
+    let nods = Nutation { longitude_e8: -386_755, obliquity_e8: -160_387, true_obliquity_e8: 2_343_768_724 };
+    assert_eq!((moon_sums(0), sun_sums(0), nutation(0)), (Ok(moon), Ok(sun), Ok(nods)));
+    assert_eq!(mean_sidereal(-864_000), Ok(27_947_497_100));
     for edge in [-31_904_733_600, 31_904_733_600] {
-        assert!(moon_sums(edge).is_some() && sun_sums(edge).is_some());
-        assert!(nutation(edge).is_some() && mean_sidereal_time(edge).is_some());
+        assert!(moon_sums(edge).is_ok() && sun_sums(edge).is_ok());
+        assert!(nutation(edge).is_ok() && mean_sidereal(edge).is_ok());
     }
+    let refusal = Refusal::OutOfReach;
     for beyond in [i64::MIN, -31_904_733_601, 31_904_733_601, i64::MAX] {
-        assert_eq!((moon_sums(beyond), sun_sums(beyond)), (None, None));
-        assert_eq!((nutation(beyond), mean_sidereal_time(beyond)), (None, None));
+        assert_eq!((moon_sums(beyond), sun_sums(beyond)), (Err(refusal), Err(refusal)));
+        assert_eq!((nutation(beyond), mean_sidereal(beyond)), (Err(refusal), Err(refusal)));
+    }
+}
+
+// ---- the system's clock
+
+// The midnight that begins a day counted from 2000-01-01.
+fn midnight(days: i64) -> SystemTime {
+    let seconds = Duration::from_secs(((days + 10_957) * 86_400).unsigned_abs());
+    if days < -10_957 {
+        UNIX_EPOCH - seconds
+    } else {
+        UNIX_EPOCH + seconds
+    }
+}
+
+#[test]
+fn every_day_of_the_clock() {
+    for days in -36_524..=36_889 {
+        let start = Start::try_from(midnight(days)).unwrap();
+        assert_eq!(day_count(start.year, start.month, start.day), Ok(days));
+        assert_eq!(start, Start::utc(start.year, start.month, start.day, 0, 0, 0));
+    }
+}
+
+#[test]
+fn the_clock_is_cut_to_the_tenth_before() {
+    for (days, after, start) in [
+        (0, 99_999_999, Start::utc(2000, 1, 1, 0, 0, 0)),
+        (-10_958, 1, Start::utc(1969, 12, 31, 0, 0, 0)),
+        (-36_524, 86_399_999_999_999, Start::utc(1900, 1, 1, 23, 59, 59).fraction_tenths(9)),
+        (36_889, 86_399_999_999_999, Start::utc(2100, 12, 31, 23, 59, 59).fraction_tenths(9)),
+        (8_000, 45_296_700_000_000, Start::utc(2021, 11, 26, 12, 34, 56).fraction_tenths(7)),
+    ] {
+        assert_eq!(Start::try_from(midnight(days) + Duration::from_nanos(after)), Ok(start));
+    }
+}
+
+#[test]
+fn other_times_of_the_clock_are_refused() {
+    let nanosecond = Duration::from_nanos(1);
+    let mut beyond = vec![midnight(-36_524) - nanosecond, midnight(36_890), midnight(-3_000_000), midnight(3_000_000)];
+    let longest = Duration::from_secs(i64::MAX.unsigned_abs());
+    beyond.extend([UNIX_EPOCH.checked_sub(longest), UNIX_EPOCH.checked_add(longest)].into_iter().flatten());
+    for time in beyond {
+        assert_eq!(Start::try_from(time), Err(Refusal::Year), "{time:?}");
+    }
+}
+
+// ---- the header
+
+#[test]
+fn constants_are_the_headers() {
+    let header = include_str!("../../../include/raddlehue.h");
+    let defined = |name: &str| {
+        let line = header.lines().find_map(|line| line.strip_prefix(&format!("#define RADDLEHUE_{name} ")));
+        line.unwrap_or_else(|| panic!("the header has no {name}")).to_string()
+    };
+    assert_eq!(defined("VERSION"), format!("\"{VERSION}\""));
+    for (name, number) in [("SECOND", SECOND), ("DEGREE_E7", DEGREE_E7), ("DEGREE_E8", DEGREE_E8)] {
+        assert_eq!(defined(name), number.to_string(), "{name}");
     }
 }
