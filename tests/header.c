@@ -1,78 +1,332 @@
-/* Each function of the header called once from C: silent where every struct has its size and every answer is a vector's. */
-#include <stdio.h>
-
+/* Every export, and every function beside one, called from C or C++ with answers of tests/vectors; a refused call leaves what it was lent as it was.
+ * Silent where all of that holds. It is C89 and C++98 as well as all that came after them. */
+#include "raddlehue.h"
 #include "raddlehue.h"
 
-#define CHECK(holds)                                                  \
-    do {                                                              \
-        if (!(holds)) {                                               \
+#include <stdio.h>
+#include <string.h>
+
+#define CHECK(holds)                                                    \
+    do {                                                                \
+        if (!(holds)) {                                                 \
             fprintf(stderr, "header, line %d: %s\n", __LINE__, #holds); \
-            return 1;                                                 \
-        }                                                             \
+            return 1;                                                   \
+        }                                                               \
     } while (0)
 
-static const raddlehue_start_t start = {2100, 8, 5, 5, 45, 21, 9, -8, -58850};
-static const raddlehue_point_t point = {628815586, 221655669, 9000};
-static const raddlehue_air_t no_air = {RADDLEHUE_AIR_NONE, 0.0, 0.0};
+/* moon 1960 8 6 20 27 28 6 -5 794 585407609 389472334 769 standard */
+static const raddlehue_start_t moon_start = {1960, 8, 6, 20, 27, 28, 6, -5, 794};
+static const raddlehue_point_t moon_point = {585407609, 389472334, 769};
+static const raddlehue_air_t standard = {RADDLEHUE_AIR_STANDARD, 0.0, 0.0};
 
-static int sizes(void) {
-    CHECK(sizeof(raddlehue_start_t) == 72);
-    CHECK(sizeof(raddlehue_point_t) == 24);
-    CHECK(sizeof(raddlehue_air_t) == 24);
-    CHECK(sizeof(raddlehue_place_t) == 24);
-    CHECK(sizeof(raddlehue_shown_place_t) == 32);
-    CHECK(sizeof(raddlehue_batch_t) == 24);
-    CHECK(sizeof(raddlehue_middle_t) == 16);
-    CHECK(sizeof(raddlehue_refraction_t) == 16);
-    CHECK(sizeof(raddlehue_day_count_t) == 16);
-    CHECK(sizeof(raddlehue_moon_sums_t) == 32);
-    CHECK(sizeof(raddlehue_sun_sums_t) == 32);
-    CHECK(sizeof(raddlehue_nutation_t) == 32);
-    CHECK(sizeof(raddlehue_mean_sidereal_t) == 16);
+/* sun 2084 10 1 16 53 51 6 -5 557 -481509256 -499537563 1954 measured 1200 80 */
+static const raddlehue_start_t sun_start = {2084, 10, 1, 16, 53, 51, 6, -5, 557};
+static const raddlehue_point_t sun_point = {-481509256, -499537563, 1954};
+static const raddlehue_air_t measured = {RADDLEHUE_AIR_MEASURED, 1200.0, 80.0};
+
+/* batch moon 1901 10 16 9 53 46 7 -4 77549 -202447758 -340487719 5521 3 3 ; 2577 */
+static const raddlehue_start_t batch_start = {1901, 10, 16, 9, 53, 46, 7, -4, 77549};
+static const raddlehue_point_t batch_point = {-202447758, -340487719, 5521};
+
+/* batch moon 2100 12 31 23 51 23 5 -1 33931 -243466823 -65708847 6033 4 4 ; 2359 7103 867 */
+static const raddlehue_start_t late_start = {2100, 12, 31, 23, 51, 23, 5, -1, 33931};
+static const raddlehue_point_t late_point = {-243466823, -65708847, 6033};
+
+static const int64_t reach = 31904733600;
+
+/* The doubles of the vectors are written as their bits. */
+static uint64_t bits(double number)
+{
+    uint64_t found;
+    memcpy(&found, &number, sizeof found);
+    return found;
+}
+
+static int constants(void)
+{
+    char version[32];
+    sprintf(version, "%d.%d.%d", RADDLEHUE_VERSION_MAJOR, RADDLEHUE_VERSION_MINOR, RADDLEHUE_VERSION_PATCH);
+    CHECK(strcmp(version, RADDLEHUE_VERSION) == 0);
+    CHECK(RADDLEHUE_SECOND == 10 && RADDLEHUE_DEGREE_E7 == 10000000 && RADDLEHUE_DEGREE_E8 == 100000000);
+    CHECK(RADDLEHUE_SUN == 0 && RADDLEHUE_MOON == 1);
+    CHECK(RADDLEHUE_AIR_NONE == 0 && RADDLEHUE_AIR_STANDARD == 1 && RADDLEHUE_AIR_MEASURED == 2);
     return 0;
 }
 
-static int places(void) {
+/* The archive has arrays of numbers where the header has structs. */
+static int sizes(void)
+{
+    CHECK(sizeof(raddlehue_start_t) == 9 * sizeof(int64_t));
+    CHECK(sizeof(raddlehue_point_t) == 3 * sizeof(int64_t));
+    CHECK(sizeof(raddlehue_place_t) == 2 * sizeof(int64_t));
+    CHECK(sizeof(raddlehue_shown_place_t) == 3 * sizeof(double));
+    CHECK(sizeof(raddlehue_batch_t) == 2 * sizeof(uint64_t));
+    CHECK(sizeof(raddlehue_instant_t) == 2 * sizeof(int64_t));
+    CHECK(sizeof(raddlehue_moon_sums_t) == 3 * sizeof(int64_t));
+    CHECK(sizeof(raddlehue_sun_sums_t) == 3 * sizeof(int64_t));
+    CHECK(sizeof(raddlehue_nutation_t) == 3 * sizeof(int64_t));
+    CHECK(sizeof(int64_t) == 8 && sizeof(double) == 8);
+    return 0;
+}
+
+static int known(uint32_t refusal)
+{
+    return strcmp(raddlehue_refusal_text(refusal), "unknown refusal") != 0;
+}
+
+static int texts(void)
+{
+    uint32_t refusal;
+    for (refusal = 0; refusal < 300; refusal++)
+        CHECK(known(refusal) == (refusal <= 16 || (101 <= refusal && refusal <= 104)));
+    CHECK(!known(0xffffffffu));
+    CHECK(strcmp(raddlehue_refusal_text(RADDLEHUE_ACCEPTED), "accepted") == 0);
+    CHECK(strcmp(raddlehue_refusal_text(RADDLEHUE_YEAR), "the year is not 1900 to 2100") == 0);
+    return 0;
+}
+
+static int place(void)
+{
+    raddlehue_place_t place = {-7, -8};
+    raddlehue_place_answer_t answer;
+    CHECK(raddlehue_place(&moon_start, 2, &moon_point, 3, 0.0, 0.0, &place) == RADDLEHUE_UNKNOWN_BODY);
+    CHECK(raddlehue_place(&moon_start, RADDLEHUE_MOON, &moon_point, 3, 0.0, 0.0, &place) == RADDLEHUE_UNKNOWN_AIR);
+    CHECK(raddlehue_place(&moon_start, RADDLEHUE_MOON, &moon_point, RADDLEHUE_AIR_MEASURED, 1200.5, 81.0, &place) == RADDLEHUE_PRESSURE);
+    CHECK(raddlehue_place(&moon_start, RADDLEHUE_MOON, &moon_point, RADDLEHUE_AIR_MEASURED, 1200.0, 81.0, &place) == RADDLEHUE_TEMPERATURE);
+    CHECK(place.azimuth_e8 == -7 && place.elevation_e8 == -8);
+    CHECK(raddlehue_place(&moon_start, RADDLEHUE_MOON, &moon_point, RADDLEHUE_AIR_STANDARD, 0.0, 0.0, &place) == RADDLEHUE_ACCEPTED);
+    CHECK(place.azimuth_e8 == 19009485461 && place.elevation_e8 == 3497984949);
+
+    answer = raddlehue_place_of(sun_start, RADDLEHUE_SUN, sun_point, measured);
+    CHECK(answer.refusal == RADDLEHUE_ACCEPTED && answer.azimuth_e8 == 32348562605 && answer.elevation_e8 == 3810078907);
+    answer = raddlehue_place_of(sun_start, 2, sun_point, measured);
+    CHECK(answer.refusal == RADDLEHUE_UNKNOWN_BODY && answer.azimuth_e8 == 0 && answer.elevation_e8 == 0);
+    return 0;
+}
+
+/* Each number of a request out of its range, the later ones first, so that each refusal goes before those that are found already. */
+static int refusals(void)
+{
+    raddlehue_start_t start = moon_start;
+    raddlehue_point_t point = moon_point;
+    raddlehue_air_t air = {RADDLEHUE_AIR_MEASURED, 1010.0, -80.5};
+    CHECK(raddlehue_place_of(start, RADDLEHUE_SUN, point, air).refusal == RADDLEHUE_TEMPERATURE);
+    air.pressure_mbar = -0.5;
+    CHECK(raddlehue_place_of(start, RADDLEHUE_SUN, point, air).refusal == RADDLEHUE_PRESSURE);
+    point.height_metres = -501;
+    CHECK(raddlehue_place_of(start, RADDLEHUE_SUN, point, air).refusal == RADDLEHUE_HEIGHT);
+    point.latitude_e7 = 900000001;
+    CHECK(raddlehue_place_of(start, RADDLEHUE_SUN, point, air).refusal == RADDLEHUE_LATITUDE);
+    point.longitude_e7 = -1800000001;
+    CHECK(raddlehue_place_of(start, RADDLEHUE_SUN, point, air).refusal == RADDLEHUE_LONGITUDE);
+    start.delta_t_tenths = 80001;
+    CHECK(raddlehue_place_of(start, RADDLEHUE_SUN, point, air).refusal == RADDLEHUE_DELTA_T);
+    start.ut1_tenths = 10;
+    CHECK(raddlehue_place_of(start, RADDLEHUE_SUN, point, air).refusal == RADDLEHUE_UT1);
+    start.fraction_tenths = 10;
+    CHECK(raddlehue_place_of(start, RADDLEHUE_SUN, point, air).refusal == RADDLEHUE_CLOCK);
+    start.day = 32;
+    CHECK(raddlehue_place_of(start, RADDLEHUE_SUN, point, air).refusal == RADDLEHUE_DAY);
+    start.month = 13;
+    CHECK(raddlehue_place_of(start, RADDLEHUE_SUN, point, air).refusal == RADDLEHUE_MONTH);
+    start.year = 2101;
+    CHECK(raddlehue_place_of(start, RADDLEHUE_SUN, point, air).refusal == RADDLEHUE_YEAR);
+    air.kind = 3;
+    CHECK(raddlehue_place_of(start, RADDLEHUE_SUN, point, air).refusal == RADDLEHUE_UNKNOWN_AIR);
+    CHECK(raddlehue_place_of(start, 2, point, air).refusal == RADDLEHUE_UNKNOWN_BODY);
+    return 0;
+}
+
+static int shown_place(void)
+{
+    raddlehue_shown_place_t shown = {-7.0, -8.0, -9.0};
+    raddlehue_shown_place_answer_t answer;
+    CHECK(raddlehue_shown_place(&sun_start, 2, &sun_point, 3, 0.0, 0.0, &shown) == RADDLEHUE_UNKNOWN_BODY);
+    CHECK(raddlehue_shown_place(&sun_start, RADDLEHUE_SUN, &sun_point, 3, 0.0, 0.0, &shown) == RADDLEHUE_UNKNOWN_AIR);
+    CHECK(raddlehue_shown_place(&sun_start, RADDLEHUE_SUN, &sun_point, RADDLEHUE_AIR_MEASURED, 1200.0, 80.5, &shown) == RADDLEHUE_TEMPERATURE);
+    CHECK(shown.azimuth_degrees == -7.0 && shown.elevation_degrees == -8.0 && shown.refraction_degrees == -9.0);
+    CHECK(raddlehue_shown_place(&sun_start, RADDLEHUE_SUN, &sun_point, RADDLEHUE_AIR_MEASURED, 1200.0, 80.0, &shown) == RADDLEHUE_ACCEPTED);
+    CHECK(bits(shown.azimuth_degrees) == 0x407437c51fd22d5f && bits(shown.elevation_degrees) == 0x40430f8592fd1b44);
+    CHECK(bits(shown.refraction_degrees) == 0x3f94f757eb13390b);
+
+    answer = raddlehue_shown_place_of(moon_start, RADDLEHUE_MOON, moon_point, standard);
+    CHECK(answer.refusal == RADDLEHUE_ACCEPTED && bits(answer.azimuth_degrees) == 0x4067c3090c88fa65);
+    CHECK(bits(answer.elevation_degrees) == 0x404180804f70a596 && bits(answer.refraction_degrees) == 0x3f98a4d15af7270f);
+    answer = raddlehue_shown_place_of(moon_start, 2, moon_point, standard);
+    CHECK(answer.refusal == RADDLEHUE_UNKNOWN_BODY && answer.azimuth_degrees == 0.0);
+    CHECK(answer.elevation_degrees == 0.0 && answer.refraction_degrees == 0.0);
+    return 0;
+}
+
+static int batch(void)
+{
+    const uint32_t offsets[1] = {2577};
+    int64_t azimuths[3] = {-7, -7, -7}, elevations[3] = {-8, -8, -8};
+    raddlehue_batch_t batch = {77, 88};
+    raddlehue_batch_answer_t answer;
+    CHECK(raddlehue_batch(&batch_start, RADDLEHUE_MOON, &batch_point, offsets, 1, azimuths, 3, elevations, 3, &batch) == RADDLEHUE_ACCEPTED);
+    CHECK(batch.index == 0 && batch.count == 1);
+    CHECK(azimuths[0] == 10627468805 && azimuths[1] == -7 && azimuths[2] == -7);
+    CHECK(elevations[0] == 957985423 && elevations[1] == -8 && elevations[2] == -8);
+
+    azimuths[0] = -7;
+    answer = raddlehue_batch_of(batch_start, RADDLEHUE_MOON, batch_point, offsets, 1, azimuths, 1, elevations, 1);
+    CHECK(answer.refusal == RADDLEHUE_ACCEPTED && answer.index == 0 && answer.count == 1 && azimuths[0] == 10627468805);
+    return 0;
+}
+
+static int refused_batch(void)
+{
+    const uint32_t offsets[3] = {2359, 7103, 867};
+    int64_t azimuths[3] = {-7, -7, -7}, elevations[3] = {-8, -8, -8};
+    raddlehue_start_t nowhen = late_start;
+    raddlehue_batch_t batch = {77, 88};
+    raddlehue_batch_answer_t answer;
+    nowhen.year = 1899;
+    CHECK(raddlehue_batch(&nowhen, 2, &late_point, offsets, 3, azimuths, 3, elevations, 3, &batch) == RADDLEHUE_UNKNOWN_BODY);
+    CHECK(raddlehue_batch(&nowhen, RADDLEHUE_MOON, &late_point, offsets, 3, azimuths, 2, elevations, 3, &batch) == RADDLEHUE_YEAR);
+    CHECK(raddlehue_batch(&late_start, RADDLEHUE_MOON, &late_point, offsets, 3, azimuths, 2, elevations, 3, &batch) == RADDLEHUE_SHORT_BUFFER);
+    CHECK(raddlehue_batch(&late_start, RADDLEHUE_MOON, &late_point, offsets, 3, azimuths, 3, elevations, 2, &batch) == RADDLEHUE_SHORT_BUFFER);
+    CHECK(batch.index == 77 && batch.count == 88);
+    CHECK(raddlehue_batch(&late_start, RADDLEHUE_MOON, &late_point, offsets, 3, azimuths, 3, elevations, 3, &batch) == RADDLEHUE_TOO_LATE);
+    CHECK(batch.index == 1 && batch.count == 0);
+    answer = raddlehue_batch_of(late_start, RADDLEHUE_MOON, late_point, offsets, 3, azimuths, 3, elevations, 3);
+    CHECK(answer.refusal == RADDLEHUE_TOO_LATE && answer.index == 1 && answer.count == 0);
+    answer = raddlehue_batch_of(late_start, RADDLEHUE_MOON, late_point, offsets, 3, azimuths, 0, elevations, 0);
+    CHECK(answer.refusal == RADDLEHUE_SHORT_BUFFER && answer.index == 0 && answer.count == 0);
+    CHECK(azimuths[0] == -7 && azimuths[1] == -7 && azimuths[2] == -7);
+    CHECK(elevations[0] == -8 && elevations[1] == -8 && elevations[2] == -8);
+    return 0;
+}
+
+/* A length of 0 may come with a null pointer. */
+static int empty_batch(void)
+{
     const uint32_t offsets[1] = {0};
-    int64_t azimuths[2] = {-7, -7}, elevations[2] = {-8, -8};
-    raddlehue_place_t place = raddlehue_place(start, RADDLEHUE_SUN, point, no_air);
-    raddlehue_shown_place_t shown = raddlehue_shown_place(start, RADDLEHUE_SUN, point, no_air);
-    raddlehue_batch_t batch = raddlehue_batch(start, RADDLEHUE_SUN, point, offsets, 1, azimuths, 2, elevations, 2);
-    CHECK(place.refusal == RADDLEHUE_ACCEPTED && place.azimuth == 9397013277 && place.elevation == 5921374473);
-    CHECK(shown.refusal == RADDLEHUE_ACCEPTED && shown.refraction == 0.0);
-    CHECK(shown.azimuth == 9397013277 / 1e8 && shown.elevation == 5921374473 / 1e8);
-    CHECK(batch.refusal == RADDLEHUE_ACCEPTED && batch.index == 0 && batch.count == 1);
-    CHECK(azimuths[0] == 9397013277 && azimuths[1] == -7);
-    CHECK(elevations[0] == 5921374473 && elevations[1] == -8);
+    raddlehue_batch_t batch = {77, 88};
+    raddlehue_batch_answer_t answer;
+    CHECK(raddlehue_batch(&batch_start, RADDLEHUE_SUN, &batch_point, 0, 0, 0, 0, 0, 0, &batch) == RADDLEHUE_ACCEPTED);
+    CHECK(batch.index == 0 && batch.count == 0);
+    answer = raddlehue_batch_of(batch_start, RADDLEHUE_SUN, batch_point, offsets, 1, 0, 0, 0, 0);
+    CHECK(answer.refusal == RADDLEHUE_SHORT_BUFFER && answer.index == 0 && answer.count == 0);
     return 0;
 }
 
-static int angles(void) {
-    raddlehue_air_t thin = {RADDLEHUE_AIR_MEASURED, 1e-300, 10.0};
-    raddlehue_middle_t middle = raddlehue_middle(35990000000, 10000000);
-    raddlehue_refraction_t refraction = raddlehue_refraction(9000000001, thin);
-    raddlehue_day_count_t day = raddlehue_day_count(2000, 2, 29);
-    CHECK(middle.refusal == RADDLEHUE_ACCEPTED && middle.azimuth == 0);
-    CHECK(refraction.refusal == RADDLEHUE_NO_ELEVATION && refraction.refraction == 0.0);
-    CHECK(day.refusal == RADDLEHUE_ACCEPTED && day.days == 59);
-    CHECK(raddlehue_sine(3000000000) == 500000000 && raddlehue_cosine(0) == 1000000000);
-    CHECK(raddlehue_arctangent(0, -1) == 18000000000 && raddlehue_root(99) == 9);
+static int middle(void)
+{
+    int64_t azimuth = -7;
+    raddlehue_middle_answer_t answer;
+    CHECK(raddlehue_middle(36000000000, 18000000000, &azimuth) == RADDLEHUE_NOT_REDUCED);
+    CHECK(raddlehue_middle(0, 18000000000, &azimuth) == RADDLEHUE_OPPOSITE);
+    CHECK(azimuth == -7);
+    CHECK(raddlehue_middle(35990000000, 10000000, &azimuth) == RADDLEHUE_ACCEPTED && azimuth == 0);
+    answer = raddlehue_middle_of(26023723306, 8023723307);
+    CHECK(answer.refusal == RADDLEHUE_ACCEPTED && answer.azimuth_e8 == 17023723306);
+    answer = raddlehue_middle_of(0, -1);
+    CHECK(answer.refusal == RADDLEHUE_NOT_REDUCED && answer.azimuth_e8 == 0);
     return 0;
 }
 
-static int sums(void) {
-    raddlehue_moon_sums_t moon = raddlehue_moon_sums(0);
-    raddlehue_sun_sums_t sun = raddlehue_sun_sums(0);
-    raddlehue_nutation_t nutation = raddlehue_nutation(0);
-    raddlehue_mean_sidereal_t sidereal = raddlehue_mean_sidereal(0);
-    CHECK(moon.within == 1 && moon.longitude == 22331871102 && moon.latitude == 517128006 && moon.metres == 402444812);
-    CHECK(sun.within == 1 && sun.longitude == 17519226963 && sun.latitude == -33050 && sun.radius == 9833275804);
-    CHECK(nutation.within == 1 && nutation.longitude == -386755 && nutation.obliquity == -160387);
-    CHECK(nutation.true_obliquity == 2343768724);
-    CHECK(sidereal.within == 1 && sidereal.mean == 28046061837);
+static int refraction(void)
+{
+    const raddlehue_air_t hot = {RADDLEHUE_AIR_MEASURED, 1010.0, 80.5};
+    double degrees = -7.0;
+    raddlehue_refraction_answer_t answer;
+    CHECK(raddlehue_refraction(9000000001, 3, 1200.5, 80.5, &degrees) == RADDLEHUE_UNKNOWN_AIR);
+    CHECK(raddlehue_refraction(9000000001, RADDLEHUE_AIR_MEASURED, 1200.5, 80.5, &degrees) == RADDLEHUE_NO_ELEVATION);
+    CHECK(raddlehue_refraction(0, RADDLEHUE_AIR_MEASURED, 1200.5, 80.5, &degrees) == RADDLEHUE_PRESSURE);
+    CHECK(degrees == -7.0);
+    CHECK(raddlehue_refraction(0, RADDLEHUE_AIR_STANDARD, 0.0, 0.0, &degrees) == RADDLEHUE_ACCEPTED);
+    CHECK(bits(degrees) == 0x3fdee9ff9526e05e);
+    answer = raddlehue_refraction_of(8999200393, standard);
+    CHECK(answer.refusal == RADDLEHUE_ACCEPTED && bits(answer.refraction_degrees) == 0xbeff353c0509cad5);
+    answer = raddlehue_refraction_of(0, hot);
+    CHECK(answer.refusal == RADDLEHUE_TEMPERATURE && answer.refraction_degrees == 0.0);
     return 0;
 }
 
-int main(void) {
-    return sizes() || places() || angles() || sums();
+/* Cases of 01 ("Time", "Cases by hand"). */
+static int days_and_instants(void)
+{
+    const raddlehue_start_t day_later = {2000, 1, 2, 12, 0, 0, 3, -9, 638};
+    raddlehue_start_t nowhen = day_later;
+    int64_t days = -7;
+    raddlehue_instant_t instant = {-7, -8};
+    raddlehue_day_count_answer_t day;
+    raddlehue_instant_answer_t answer;
+    nowhen.delta_t_tenths = -80001;
+    CHECK(raddlehue_day_count(1900, 2, 29, &days) == RADDLEHUE_DAY && days == -7);
+    CHECK(raddlehue_day_count(1900, 1, 1, &days) == RADDLEHUE_ACCEPTED && days == -36524);
+    day = raddlehue_day_count_of(2100, 12, 31);
+    CHECK(day.refusal == RADDLEHUE_ACCEPTED && day.days == 36889);
+    day = raddlehue_day_count_of(2101, 13, 32);
+    CHECK(day.refusal == RADDLEHUE_YEAR && day.days == 0);
+
+    CHECK(raddlehue_instant(&nowhen, &instant) == RADDLEHUE_DELTA_T && instant.ut_tenths == -7 && instant.tt_tenths == -8);
+    CHECK(raddlehue_instant(&day_later, &instant) == RADDLEHUE_ACCEPTED && instant.ut_tenths == 863994 && instant.tt_tenths == 864632);
+    answer = raddlehue_instant_of(day_later);
+    CHECK(answer.refusal == RADDLEHUE_ACCEPTED && answer.ut_tenths == 863994 && answer.tt_tenths == 864632);
+    answer = raddlehue_instant_of(nowhen);
+    CHECK(answer.refusal == RADDLEHUE_DELTA_T && answer.ut_tenths == 0 && answer.tt_tenths == 0);
+    return 0;
+}
+
+/* sums 0 and sums -30265161315 */
+static int moon_and_sun(void)
+{
+    raddlehue_moon_sums_t moon = {-7, -8, -9};
+    raddlehue_sun_sums_t sun = {-7, -8, -9};
+    raddlehue_moon_sums_answer_t moon_answer = raddlehue_moon_sums_of(-30265161315);
+    raddlehue_sun_sums_answer_t sun_answer = raddlehue_sun_sums_of(-30265161315);
+    CHECK(raddlehue_moon_sums(reach + 1, &moon) == RADDLEHUE_OUT_OF_REACH);
+    CHECK(moon.longitude_e8 == -7 && moon.latitude_e8 == -8 && moon.distance_metres == -9);
+    CHECK(raddlehue_moon_sums(0, &moon) == RADDLEHUE_ACCEPTED);
+    CHECK(moon.longitude_e8 == 22331871102 && moon.latitude_e8 == 517128006 && moon.distance_metres == 402444812);
+    CHECK(moon_answer.refusal == RADDLEHUE_ACCEPTED && moon_answer.longitude_e8 == 18665596688);
+    CHECK(moon_answer.latitude_e8 == 75740975 && moon_answer.distance_metres == 366895535);
+    CHECK(raddlehue_moon_sums_of(-reach - 1).refusal == RADDLEHUE_OUT_OF_REACH && raddlehue_moon_sums_of(-reach - 1).distance_metres == 0);
+
+    CHECK(raddlehue_sun_sums(-reach - 1, &sun) == RADDLEHUE_OUT_OF_REACH);
+    CHECK(sun.longitude_radians_e10 == -7 && sun.latitude_radians_e10 == -8 && sun.radius_au_e10 == -9);
+    CHECK(raddlehue_sun_sums(0, &sun) == RADDLEHUE_ACCEPTED);
+    CHECK(sun.longitude_radians_e10 == 17519226963 && sun.latitude_radians_e10 == -33050 && sun.radius_au_e10 == 9833275804);
+    CHECK(sun_answer.refusal == RADDLEHUE_ACCEPTED && sun_answer.longitude_radians_e10 == -6008267956896);
+    CHECK(sun_answer.latitude_radians_e10 == 3791 && sun_answer.radius_au_e10 == 9859682197);
+    CHECK(raddlehue_sun_sums_of(reach + 1).refusal == RADDLEHUE_OUT_OF_REACH && raddlehue_sun_sums_of(reach + 1).radius_au_e10 == 0);
+    return 0;
+}
+
+static int earth(void)
+{
+    int64_t sidereal = -7;
+    raddlehue_nutation_t nutation = {-7, -8, -9};
+    raddlehue_nutation_answer_t answer = raddlehue_nutation_of(-30265161315);
+    CHECK(raddlehue_nutation(reach + 1, &nutation) == RADDLEHUE_OUT_OF_REACH);
+    CHECK(nutation.longitude_e8 == -7 && nutation.obliquity_e8 == -8 && nutation.true_obliquity_e8 == -9);
+    CHECK(raddlehue_nutation(0, &nutation) == RADDLEHUE_ACCEPTED);
+    CHECK(nutation.longitude_e8 == -386755 && nutation.obliquity_e8 == -160387 && nutation.true_obliquity_e8 == 2343768724);
+    CHECK(answer.refusal == RADDLEHUE_ACCEPTED && answer.longitude_e8 == 40398);
+    CHECK(answer.obliquity_e8 == -255728 && answer.true_obliquity_e8 == 2344920337);
+    CHECK(raddlehue_nutation_of(reach + 1).refusal == RADDLEHUE_OUT_OF_REACH && raddlehue_nutation_of(reach + 1).true_obliquity_e8 == 0);
+
+    CHECK(raddlehue_mean_sidereal(-reach - 1, &sidereal) == RADDLEHUE_OUT_OF_REACH && sidereal == -7);
+    CHECK(raddlehue_mean_sidereal(-864000, &sidereal) == RADDLEHUE_ACCEPTED && sidereal == 27947497100);
+    CHECK(raddlehue_mean_sidereal_of(0).refusal == RADDLEHUE_ACCEPTED && raddlehue_mean_sidereal_of(0).sidereal_e8 == 28046061837);
+    CHECK(raddlehue_mean_sidereal_of(reach + 1).refusal == RADDLEHUE_OUT_OF_REACH && raddlehue_mean_sidereal_of(reach + 1).sidereal_e8 == 0);
+    CHECK(raddlehue_mean_sidereal_of(reach).refusal == RADDLEHUE_ACCEPTED && raddlehue_moon_sums_of(-reach).refusal == RADDLEHUE_ACCEPTED);
+    return 0;
+}
+
+static int numbers(void)
+{
+    CHECK(raddlehue_sine(24350000002) == -894934362 && raddlehue_cosine(24350000002) == -446197812);
+    CHECK(raddlehue_arctangent(1, 0) == 9004472123 && raddlehue_arctangent(0, -1) == 18000000000 && raddlehue_arctangent(0, 0) == 0);
+    CHECK(raddlehue_root(1146635045) == 33862 && raddlehue_root(~(uint64_t)0) == 4294967295u);
+    return 0;
+}
+
+int main(void)
+{
+    return constants() || sizes() || texts() || place() || refusals() || shown_place() || batch() || refused_batch() || empty_batch() ||
+           middle() || refraction() || days_and_instants() || moon_and_sun() || earth() || numbers();
 }
