@@ -125,7 +125,11 @@ fn definitions() -> Result<Vec<Refusal>, String> {
     }
     let batch = read(BATCH)?;
     let late = between(&batch, "batch-answer (Late i) = record { refusal = ", ";");
-    found.push(Refusal::new(late.ok_or_else(|| format!("{BATCH} has no number for a late offset"))?, "TOO_LATE".to_string(), None)?);
+    found.push(Refusal::new(
+        late.ok_or_else(|| format!("{BATCH} has no number for a late offset"))?,
+        "TOO_LATE".to_string(),
+        None,
+    )?);
     for line in read(CODES)?.lines() {
         if let Some((name, number)) = line.split_once(" = ") {
             if number.parse().is_ok_and(|number: u32| number >= OURS) {
@@ -209,7 +213,10 @@ fn run() -> Result<String, String> {
     compare(&list, CRATE, &rust_crate()?)?;
     compare(&list, &format!("{NUMBERS} with {BATCH} and {CODES}"), &definitions()?)?;
     let sentences = order(&list)?;
-    Ok(format!("{} in one list, the same in C, in Rust and in the definitions, and {sentences} functions in its order", list.len()))
+    Ok(format!(
+        "{} in one list, the same in C, in Rust and in the definitions, and {sentences} functions in its order",
+        list.len()
+    ))
 }
 
 fn main() -> ExitCode {
