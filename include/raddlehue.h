@@ -3,7 +3,7 @@
  * Link libraddlehue.a. No function keeps state, allocates or reads a clock, so any number of threads may call any of them; every number may be given, and what
  * cannot be answered is refused by a number. Each function comes in two forms: an export, which gives the refusal (0 where there is none), writes its answer
  * through a pointer, and **writes nothing where it refuses**; and beside it an inline function whose name ends in _of, which takes structs and returns the answer
- * as a struct, with the refusal in it and zeros elsewhere.
+ * as a struct, with the refusal in it and zeros elsewhere (but for the index of 13).
  *
  * Names say their unit: _e7 and _e8 are 1e-7 and 1e-8 degree, _e10 is 1e-10, _tenths are tenths of a second. Azimuth counts from north over east (east is 90
  * degrees), longitude is east positive, latitude north positive, time is UTC in the Gregorian calendar and never a local zone, elevation counts from the
@@ -41,7 +41,8 @@ extern "C" {
 #define RADDLEHUE_DEGREE_E7 10000000
 #define RADDLEHUE_DEGREE_E8 100000000
 
-/* The refusals, in the order in which they are checked; those from 101 on come first of all, since no request can be formed. docs/REFUSALS.md has the list. */
+/* The refusals. They are checked in the order of their numbers, but 15 before 14, and those from 101 on first of all, since no request can be formed; each function's comment
+ * says which it gives. docs/REFUSALS.md has the list. */
 enum {
     RADDLEHUE_ACCEPTED = 0,
     RADDLEHUE_YEAR = 1,
@@ -412,8 +413,8 @@ RADDLEHUE_INLINE raddlehue_mean_sidereal_answer_t raddlehue_mean_sidereal_of(int
 int64_t raddlehue_sine(int64_t angle_e8);
 int64_t raddlehue_cosine(int64_t angle_e8);
 
-/* The angle of (x, y) from the x axis towards y, 0 to 35,999,999,999; 0 where both are zero. Thirty whole-number steps: a pair of thousands or more is good to some
- * units, a tiny one is not (of (1, 0) it is 9,004,472,123). */
+/* The angle of the point (x, y) from the x axis towards the y axis, 0 to 35,999,999,999; 0 where both are zero. Thirty whole-number steps: a pair of thousands or more is
+ * good to some units, a tiny one is not (of y = 1, x = 0 it is 9,004,472,123). */
 int64_t raddlehue_arctangent(int64_t y, int64_t x);
 
 /* The greatest whole number whose square is not above the given one. */
