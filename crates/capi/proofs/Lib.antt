@@ -1,0 +1,4 @@
+pub mod BatchLaws
+pub mod InstantLaws
+pub mod MiddleSize
+pub mod WrittenLaws

@@ -5,11 +5,12 @@ use Prim.Native.Nat.{ℕ}
 use lib.Dec.{eqb}
 use lib.Ieee.{Float}
 use lib.IntN.{pos, ℤ}
+use lib.ListN.{length}
 use Rattle.numbers.specs.Refusal.{first}
 use Rattle.sum_rules.specs.declared.instant.Instant.{Instant}
 use Rattle.sky.specs.Air.{air-refusals}
 use Rattle.sky.specs.Answer.{Answer, judged, nowhere, place, shown-place}
-use Rattle.sky.specs.Batch.{BatchAnswer, batch}
+use Rattle.sky.specs.Batch.{BatchAnswer, azimuth-at, batch, elevation-at, left-in}
 use Rattle.sky.specs.Request.{instant, start-from, start-refusals}
 use Rattle.sky.specs.Shown.{nothing-shown}
 use Rattle.sky.specs.declared.shown.Shown.{Shown}
@@ -43,10 +44,19 @@ coded-shown-place start body point air pressure temperature =
 abbrev pub shown-values : Shown → List Float
 shown-values p = p .azimuth ∷ p .elevation ∷ p .refraction ∷ []
 
-abbrev pub coded-batch : List ℤ → ℕ → List ℤ → List ℕ → ℕ → ℕ → BatchAnswer
-coded-batch start body point offsets m n =
+abbrev pub coded-batch : List ℤ → ℕ → List ℤ → List ℕ → List ℤ → List ℤ → BatchAnswer
+coded-batch start body point offsets azimuths elevations =
     let refusal = body-refusal body in
-    cond (eqb refusal 0) (batch (start-from start) (point-from point) offsets m n) (record { refusal = refusal; index = 0; count = 0 })
+    cond (eqb refusal 0) (batch (start-from start) (point-from point) offsets (length azimuths) (length elevations)) (record { refusal = refusal; index = 0; count = 0 })
+
+-- each buffer after the call
+abbrev pub azimuths-left : List ℤ → ℕ → List ℤ → List ℕ → List ℤ → List ℤ → List ℤ
+azimuths-left start body point offsets azimuths elevations =
+    left-in (coded-batch start body point offsets azimuths elevations) (azimuth-at (body-of body) (point-from point) (instant (start-from start))) offsets azimuths
+
+abbrev pub elevations-left : List ℤ → ℕ → List ℤ → List ℕ → List ℤ → List ℤ → List ℤ
+elevations-left start body point offsets azimuths elevations =
+    left-in (coded-batch start body point offsets azimuths elevations) (elevation-at (body-of body) (point-from point) (instant (start-from start))) offsets elevations
 
 -- index and count of a batch that is accepted or late; any other refusal writes nothing
 abbrev pub told-of-batch : BatchAnswer → List ℕ → List ℕ

@@ -8,12 +8,7 @@ use numbers::refusal::number_of;
 use sky::batch::Batch;
 use sky::batch::places_at;
 ghost use mathlib.Core.Path.{_≡_};
-ghost use lib.ListN.{length};
-ghost use Rattle.sky.specs.Batch.{azimuth-at, elevation-at, left-in};
-ghost use Rattle.sky.specs.Request.{instant, start-from};
-ghost use Rattle.capi.specs.Codes.{body-of};
-ghost use Rattle.capi.specs.Given.{point-from};
-ghost use Rattle.capi.specs.Answers.{coded-batch, told-of-batch};
+ghost use Rattle.capi.specs.Answers.{azimuths-left, coded-batch, elevations-left, told-of-batch};
 
 // The index of the first bad offset (13) and the count are told; any other refusal writes nothing.
 #[no_mangle]
@@ -26,10 +21,10 @@ pub extern "C" fn raddlehue_batch(
     elevations: &mut [i64],
     told: &mut [u64; 2],
 ) -> u32
-    ensures { λ r. ⌜ r ≡ coded-batch (now (start .entry)) body (now (point .entry)) (now (offsets .entry)) (length (now (azimuths .entry))) (length (now (elevations .entry))) .refusal ⌝ }
-    ensures { λ _. ⌜ now (told .exit) ≡ told-of-batch (coded-batch (now (start .entry)) body (now (point .entry)) (now (offsets .entry)) (length (now (azimuths .entry))) (length (now (elevations .entry)))) (now (told .entry)) ⌝ }
-    ensures { λ _. ⌜ now (azimuths .exit) ≡ left-in (coded-batch (now (start .entry)) body (now (point .entry)) (now (offsets .entry)) (length (now (azimuths .entry))) (length (now (elevations .entry)))) (azimuth-at (body-of body) (point-from (now (point .entry))) (instant (start-from (now (start .entry))))) (now (offsets .entry)) (now (azimuths .entry)) ⌝ }
-    ensures { λ _. ⌜ now (elevations .exit) ≡ left-in (coded-batch (now (start .entry)) body (now (point .entry)) (now (offsets .entry)) (length (now (azimuths .entry))) (length (now (elevations .entry)))) (elevation-at (body-of body) (point-from (now (point .entry))) (instant (start-from (now (start .entry))))) (now (offsets .entry)) (now (elevations .entry)) ⌝ }
+    ensures { λ r. ⌜ r ≡ coded-batch (now (start .entry)) body (now (point .entry)) (now (offsets .entry)) (now (azimuths .entry)) (now (elevations .entry)) .refusal ⌝ }
+    ensures { λ _. ⌜ now (told .exit) ≡ told-of-batch (coded-batch (now (start .entry)) body (now (point .entry)) (now (offsets .entry)) (now (azimuths .entry)) (now (elevations .entry))) (now (told .entry)) ⌝ }
+    ensures { λ _. ⌜ now (azimuths .exit) ≡ azimuths-left (now (start .entry)) body (now (point .entry)) (now (offsets .entry)) (now (azimuths .entry)) (now (elevations .entry)) ⌝ }
+    ensures { λ _. ⌜ now (elevations .exit) ≡ elevations-left (now (start .entry)) body (now (point .entry)) (now (offsets .entry)) (now (azimuths .entry)) (now (elevations .entry)) ⌝ }
 {
     let refusal = body_refusal(body);
     if refusal != 0 {

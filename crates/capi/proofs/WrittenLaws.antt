@@ -1,0 +1,37 @@
+-- What every export promises, of the number that it gives and of what it leaves behind its reference: where it refuses, and where it answers.
+use mathlib.Core.Bool.{Bool, cond}
+use mathlib.Core.List.{List}
+use mathlib.Core.Path.{_∙_, _≡_, ap, sym}
+use Prim.Native.Nat.{ℕ}
+use lib.Dec.{eqb}
+use borrow.Author.Tests.{eq-eqb, ne-eqb}
+use Rattle.numbers.specs.Refusal.{number}
+use Rattle.numbers.specs.declared.refusal.Refusal.{Refusal}
+use Rattle.numbers.proofs.RefusalLaws.{never-none}
+use Rattle.sky.specs.Answer.{Answer}
+use Rattle.capi.specs.Answers.{written, written-one}
+
+module _ {A : Type 0} (refusal : ℕ) (value before : A) where
+  pub refused : {r : ℕ} → r ≡ refusal → (r ≡ 0 → ⊥) → (r ≡ refusal) × (before ≡ written-one refusal value before)
+  refused e refuses = (e, sym (ap (λ (b : Bool). cond b value before) (ne-eqb refusal 0 (λ none. refuses (e ∙ none)))))
+
+  -- by one of 01's refusals
+  pub refused-by : (by : Refusal) {r : ℕ} → r ≡ number by → number by ≡ refusal → (r ≡ refusal) × (before ≡ written-one refusal value before)
+  refused-by by e is = refused (e ∙ is) (λ none. never-none by (sym e ∙ none))
+
+  pub answered : {left : A} → refusal ≡ 0 → left ≡ value → (0 ≡ refusal) × (left ≡ written-one refusal value before)
+  answered none same = (sym none, same ∙ sym (ap (λ (b : Bool). cond b value before) (eq-eqb refusal 0 none)))
+
+-- an answer that has a value
+module _ {A B : Type 0} (values : A → List B) (answer : Answer A) (before : List B) where
+  pub seen : {found : A} {left : List B} → record { refusal = 0; value = found } ≡ answer → left ≡ values found → (0 ≡ answer .refusal) × (left ≡ written values answer before)
+  seen e same =
+      answered (answer .refusal) (values (answer .value)) before (sym (ap (λ (a : Answer A). a .refusal) e)) (same ∙ ap (λ (a : Answer A). values (a .value)) e)
+
+-- a request by codes: what refuses an unknown one, or the answer
+module _ {A : Type 0} (refusal : ℕ) (answer refusing : A) where
+  pub unknown : {r : ℕ} → r ≡ refusal → (r ≡ 0 → ⊥) → refusing ≡ cond (eqb refusal 0) answer refusing
+  unknown e refuses = sym (ap (λ (b : Bool). cond b answer refusing) (ne-eqb refusal 0 (λ none. refuses (e ∙ none))))
+
+  pub known : {r : ℕ} {found : A} → r ≡ refusal → r ≡ 0 → found ≡ answer → found ≡ cond (eqb refusal 0) answer refusing
+  known e none same = same ∙ sym (ap (λ (b : Bool). cond b answer refusing) (eq-eqb refusal 0 (sym e ∙ none)))

@@ -1,0 +1,113 @@
+-- `capi::place::raddlehue_shown_place` meets its contract. The sky's answer is the request's own, where no code is refused; its case says what is written.
+use mathlib.Core.Path.{_∙_, _≡_, ap, sym}
+use Prim.Native.Nat.{ℕ}
+use borrow.Author.Needs.{needs}
+use Rattle.sky.specs.Answer.{Answer, shown-answer, shown-place}
+use Rattle.sky.specs.Request.{start-from}
+use Rattle.sky.specs.Shown.{nothing-shown}
+use Rattle.sky.specs.declared.shown.Shown.{Shown}
+use Rattle.capi.specs.Answers.{coded-shown-place, shown-values}
+use Rattle.capi.specs.Codes.{air-of, body-of, code-refusal}
+use Rattle.capi.specs.Given.{point-from}
+use Rattle.capi.proofs.WrittenLaws.{known, refused, refused-by, seen, unknown}
+use Rattle.capi.proofs.place.raddlehue_shown_place.Statement.{statement}
+use Rattle.capi.proofs.place.raddlehue_shown_place.Tie as tie
+
+-- what is asked for: the rule's answer, what refuses an unknown code, and the two together
+module _ (s : tie.Start) where
+  abbrev refusal-of : ℕ
+  refusal-of = code-refusal (s .args .body) (s .args .air)
+
+  abbrev ruled : Answer Shown
+  ruled = shown-place (start-from (s .args .start .now)) (body-of (s .args .body)) (point-from (s .args .point .now)) (air-of (s .args .air) (s .args .pressure) (s .args .temperature))
+
+  abbrev refusing : Answer Shown
+  refusing = record { refusal = refusal-of; value = nothing-shown }
+
+  abbrev asked : Answer Shown
+  asked = coded-shown-place (s .args .start .now) (s .args .body) (s .args .point .now) (s .args .air) (s .args .pressure) (s .args .temperature)
+
+-- the sky's answer
+module _ (c : tie.After-shown-place) where
+  abbrev b : tie.After-body-of
+  b = c .before .before
+
+  abbrev e : tie.Else1
+  e = b .before .before .before
+
+  abbrev s : tie.Start
+  s = e .before .before
+
+  answer : shown-answer (c .shown-place .result) ≡ asked s
+  answer =
+      known (refusal-of s) (ruled s) (refusing s) (e .before .code-refusal .ensures) (e .if1 .left)
+      (c .shown-place .ensures .0 .equal
+      ∙ (λ i. shown-place (b .before .start-of .ensures i) (b .body-of .ensures i) (c .before .point-of .ensures i) (b .before .before .air-of .ensures i)))
+
+code-refusal-requires : tie.Need-code-refusal-requires
+code-refusal-requires c κs = search needs
+
+returns : tie.Need-returns
+returns c =
+    let s = c .before .before in
+    let is = c .before .code-refusal .ensures in
+    refused (asked s .refusal) (shown-values (asked s .value)) (s .args .shown .now)
+    (is ∙ ap (λ (a : Answer Shown). a .refusal) (unknown (refusal-of s) (ruled s) (refusing s) is (c .if1 .taken))) (c .if1 .taken)
+
+air-of-requires : tie.Need-air-of-requires
+air-of-requires c κs = search needs
+
+start-of-requires : tie.Need-start-of-requires
+start-of-requires c κs = search needs
+
+body-of-requires : tie.Need-body-of-requires
+body-of-requires c κs = search needs
+
+point-of-requires : tie.Need-point-of-requires
+point-of-requires c κs = search needs
+
+shown-place-requires : tie.Need-shown-place-requires
+shown-place-requires c κs = search needs
+
+enum-known-seen : tie.Need-enum-known-seen
+enum-known-seen c = search needs
+
+put-doubles-requires : tie.Need-put-doubles-requires
+put-doubles-requires c κs = search needs
+
+enum-known-refused : tie.Need-enum-known-refused
+enum-known-refused c = search needs
+
+number-of-requires : tie.Need-number-of-requires
+number-of-requires c κs = search needs
+
+returns-2 : tie.Need-returns-2
+returns-2 c =
+    let k = c .before .before .before in
+    let a = k .before .before in
+    seen shown-values (asked (s a)) (s a .args .shown .now) (sym (ap shown-answer (k .seen .given .1)) ∙ answer a) (c .put-doubles .ensures)
+
+returns-3 : tie.Need-returns-3
+returns-3 c =
+    let k = c .before .before in
+    let a = k .before .before in
+    refused-by (asked (s a) .refusal) (shown-values (asked (s a) .value)) (s a .args .shown .now) (k .refused .given .0 .0) (c .number-of .ensures)
+    (ap (λ (a : Answer Shown). a .refusal) (sym (ap shown-answer (k .refused .given .1)) ∙ answer a))
+
+pub raddlehue-shown-place-spec : {M : Type 1} → statement M
+raddlehue-shown-place-spec =
+    tie.close
+    (tie.spec
+    code-refusal-requires
+    returns
+    air-of-requires
+    start-of-requires
+    body-of-requires
+    point-of-requires
+    shown-place-requires
+    enum-known-seen
+    put-doubles-requires
+    enum-known-refused
+    number-of-requires
+    returns-2
+    returns-3)
