@@ -1,22 +1,22 @@
 -- `capi::batch::raddlehue_batch` meets its contract. The sky's answer is the batch's own, where the body is known, and both buffers are what the sky left;
 -- each case of the answer then says what is told. An unknown body leaves everything as it was.
+use mathlib.Core.List.{List}
 use mathlib.Core.Path.{_∙_, _≡_, ap, sym}
-use Prim.Native.Nat.{ℕ}
 use lib.IntN.{ℤ}
 use lib.ListN.{length}
 use borrow.Author.Needs.{needs}
 use Rattle.numbers.proofs.RefusalLaws.{never-late, never-none}
 use Rattle.sky.specs.Batch.{BatchAnswer, azimuth-at, batch, batch-answer, elevation-at, left-in}
 use Rattle.sky.specs.Request.{instant, start-from}
-use Rattle.capi.specs.Answers.{coded-batch, told-of-batch}
-use Rattle.capi.specs.Codes.{body-of, body-refusal}
+use Rattle.capi.specs.Answers.{azimuths-left, coded-batch, elevations-left, told-of-batch}
+use Rattle.capi.specs.Codes.{body-refusal}
 use Rattle.capi.specs.Given.{point-from}
 use Rattle.capi.proofs.BatchLaws.{body-not-late, buffer-kept, untold}
 use Rattle.capi.proofs.WrittenLaws.{known, unknown}
 use Rattle.capi.proofs.batch.raddlehue_batch.Statement.{statement}
 use Rattle.capi.proofs.batch.raddlehue_batch.Tie as tie
 
--- what is asked for: the rule's answer, that to an unknown body, and the two together
+-- what is asked for: the rule's answer, that to an unknown body, the two together, and what they leave in the buffers
 module _ (s : tie.Start) where
   abbrev ruled : BatchAnswer
   ruled = batch (start-from (s .args .start .now)) (point-from (s .args .point .now)) (s .args .offsets .now) (length (s .args .azimuths .now)) (length (s .args .elevations .now))
@@ -27,20 +27,16 @@ module _ (s : tie.Start) where
   abbrev asked : BatchAnswer
   asked = coded-batch (s .args .start .now) (s .args .body) (s .args .point .now) (s .args .offsets .now) (s .args .azimuths .now) (s .args .elevations .now)
 
-  -- an entry of each buffer
-  abbrev azimuth : ℕ → ℤ
-  azimuth = azimuth-at (body-of (s .args .body)) (point-from (s .args .point .now)) (instant (start-from (s .args .start .now)))
+  abbrev azimuths : List ℤ
+  azimuths = azimuths-left (s .args .start .now) (s .args .body) (s .args .point .now) (s .args .offsets .now) (s .args .azimuths .now) (s .args .elevations .now)
 
-  abbrev elevation : ℕ → ℤ
-  elevation = elevation-at (body-of (s .args .body)) (point-from (s .args .point .now)) (instant (start-from (s .args .start .now)))
+  abbrev elevations : List ℤ
+  elevations = elevations-left (s .args .start .now) (s .args .body) (s .args .point .now) (s .args .offsets .now) (s .args .azimuths .now) (s .args .elevations .now)
 
 -- the sky's answer, and the buffers as it left them
-module _ (c : tie.After-elevations) where
-  abbrev p : tie.After-places-at
-  p = c .before .before
-
+module _ (c : tie.After-places-at) where
   abbrev b : tie.After-body-of
-  b = p .before .before .before
+  b = c .before .before .before
 
   abbrev e : tie.Else1
   e = b .before .before .before
@@ -48,22 +44,21 @@ module _ (c : tie.After-elevations) where
   abbrev s : tie.Start
   s = e .before .before .before
 
-  answer : batch-answer (p .places-at .result) ≡ asked s
+  answer : batch-answer (c .places-at .result) ≡ asked s
   answer =
       let a = s .args in
       known (body-refusal (a .body)) (ruled s) (bodiless s) (e .before .body-refusal .ensures) (e .if1 .left)
-      (p .places-at .ensures .0 .equal
+      (c .places-at .ensures .0 .equal
       ∙ (λ i. batch (b .before .before .start-of .ensures i) (b .before .point-of .ensures i) (a .offsets .now) (length (a .azimuths .now)) (length (a .elevations .now))))
 
-  buffers : (p .places-at .last .1 .1 .1 .1 .0 ≡ left-in (asked s) (azimuth s) (s .args .offsets .now) (s .args .azimuths .now))
-      × (p .places-at .last .1 .1 .1 .1 .1 .0 ≡ left-in (asked s) (elevation s) (s .args .offsets .now) (s .args .elevations .now))
+  buffers : (c .places-at .last .1 .1 .1 .1 .0 ≡ azimuths s) × (c .places-at .last .1 .1 .1 .1 .1 .0 ≡ elevations s)
   buffers =
       let a = s .args in
       let start = b .before .before .start-of .ensures in
       let point = b .before .point-of .ensures in
       let body = b .body-of .ensures in (
-        p .places-at .ensures .1 .0 ∙ (λ i. left-in (answer i) (azimuth-at (body i) (point i) (instant (start i))) (a .offsets .now) (a .azimuths .now)),
-        p .places-at .ensures .1 .1 .0 ∙ (λ i. left-in (answer i) (elevation-at (body i) (point i) (instant (start i))) (a .offsets .now) (a .elevations .now)),
+        c .places-at .ensures .1 .0 ∙ (λ i. left-in (answer i) (azimuth-at (body i) (point i) (instant (start i))) (a .offsets .now) (a .azimuths .now)),
+        c .places-at .ensures .1 .1 .0 ∙ (λ i. left-in (answer i) (elevation-at (body i) (point i) (instant (start i))) (a .offsets .now) (a .elevations .now)),
       )
 
 body-refusal-requires : tie.Need-body-refusal-requires
@@ -80,8 +75,8 @@ returns c =
       (
         untold (asked s) refuses (λ late. body-not-late (a .body) (gives ∙ late)) (a .told .now),
         (
-          buffer-kept (asked s) refuses (azimuth s) (a .offsets .now) (a .azimuths .now),
-          buffer-kept (asked s) refuses (elevation s) (a .offsets .now) (a .elevations .now),
+          buffer-kept (asked s) refuses _ (a .offsets .now) (a .azimuths .now),
+          buffer-kept (asked s) refuses _ (a .offsets .now) (a .elevations .now),
         ),
       ),
     )
@@ -125,7 +120,7 @@ same-length-2 c = search needs
 returns-2 : tie.Need-returns-2
 returns-2 c =
     let k = c .before .before .before in
-    let a = k .before .before in
+    let a = k .before .before .before .before in
     let e = sym (ap batch-answer (k .count .given .1)) ∙ answer a in
     (ap (λ (a : BatchAnswer). a .refusal) e, (c .put-counts .ensures ∙ ap (λ (answer : BatchAnswer). told-of-batch answer (s a .args .told .now)) e, buffers a))
 
@@ -138,7 +133,7 @@ same-length-4 c = search needs
 returns-3 : tie.Need-returns-3
 returns-3 c =
     let k = c .before .before .before in
-    let a = k .before .before in
+    let a = k .before .before .before .before in
     let e = sym (ap batch-answer (k .index .given .1)) ∙ answer a in
     (ap (λ (a : BatchAnswer). a .refusal) e, (c .put-counts2 .ensures ∙ ap (λ (answer : BatchAnswer). told-of-batch answer (s a .args .told .now)) e, buffers a))
 
@@ -151,7 +146,7 @@ same-length-6 c = search needs
 returns-4 : tie.Need-returns-4
 returns-4 c =
     let k = c .before .before in
-    let a = k .before .before in
+    let a = k .before .before .before .before in
     let refusal = k .refused .given .0 .0 in
     let e = sym (ap batch-answer (k .refused .given .1)) ∙ answer a in (
       c .number-of .ensures ∙ ap (λ (a : BatchAnswer). a .refusal) e,

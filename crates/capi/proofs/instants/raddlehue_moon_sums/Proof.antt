@@ -5,6 +5,7 @@ use lib.IntN.{pos}
 use mir.Syntax.{w64}
 use mir.ValLaws.{toZ-pos}
 use borrow.Author.Needs.{needs}
+use native.Mathlib.Omega.{arith}
 use Rattle.number_rules.specs.Angle.{full-turn}
 use Rattle.numbers.proofs.Machine.{any, nat-fits, passed}
 use Rattle.sum_rules.specs.Moon.{latitude, longitude, metres}
@@ -23,7 +24,7 @@ returns c =
     out-of-reach (s .fits .tt) (c .before .reach-refusal .ensures) (moon-values (s .args .tt)) (s .args .sums .now) (c .if1 .taken)
 
 moon-requires : tie.Need-moon-requires
-moon-requires c κs = near (c .before .before .fits .tt) (c .before .reach-refusal .ensures) (c .if1 .left)
+moon-requires c κs = omega (arith, near (c .before .before .fits .tt) (c .before .reach-refusal .ensures) (c .if1 .left))
 
 cast-put-triple : tie.Need-cast-put-triple
 cast-put-triple c =

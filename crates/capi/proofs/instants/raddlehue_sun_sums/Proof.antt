@@ -2,6 +2,7 @@
 use mathlib.Core.List.{[], _∷_}
 use mathlib.Core.Path.{_∙_, ap}
 use borrow.Author.Needs.{needs}
+use native.Mathlib.Omega.{arith}
 use Rattle.numbers.proofs.Machine.{any, passed}
 use Rattle.sum_rules.specs.Sun.{B, L, R}
 use Rattle.capi.specs.Instants.{sun-values}
@@ -18,7 +19,7 @@ returns c =
     out-of-reach (s .fits .tt) (c .before .reach-refusal .ensures) (sun-values (s .args .tt)) (s .args .sums .now) (c .if1 .taken)
 
 sun-requires : tie.Need-sun-requires
-sun-requires c κs = near (c .before .before .fits .tt) (c .before .reach-refusal .ensures) (c .if1 .left)
+sun-requires c κs = omega (arith, near (c .before .before .fits .tt) (c .before .reach-refusal .ensures) (c .if1 .left))
 
 put-triple-requires : tie.Need-put-triple-requires
 put-triple-requires c κs = search needs
