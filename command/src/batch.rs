@@ -1,0 +1,227 @@
+//! `raddlehue batch`: a track on standard input, answered line by line.
+//!
+//! All lines are judged before the first is answered, so that a bad one leaves nothing half printed.
+
+use crate::decimal::{self, Misread};
+use crate::delta_t::Scales;
+use crate::failure::{quoted, Failure};
+use crate::format::{self, angle, format_help, Format};
+use crate::observer::{self, observer_help, range_words, scales_words, Observer};
+use crate::place::body;
+use crate::sky::{self, Body, Place, SECOND_DECIMALS};
+use crate::time::Moment;
+use crate::words::{Command, Words};
+use std::io::{self, Read};
+
+pub const COMMAND: Command = Command {
+    name: "batch",
+    summary: "a track on standard input, answered line by line",
+    positional: &["sun|moon"],
+    flags: &[observer::FLAGS, format::FLAGS, &[("--start", Some("a time"))]],
+    help: concat!(
+        "raddlehue batch sun|moon [--start TIME] --lat DEG --lon DEG [flags] < LINES
+
+Azimuth and elevation, without refraction, for each line of standard input, in
+the order of the lines. With --start a line is an offset in seconds after it,
+with at most one decimal, and delta-T is the start's throughout; without it a
+line is a time of its own like 2026-11-15T19:30:30.5Z, with that time's delta-T.
+All lines are judged before anything is printed: one bad line, and there is no
+answer but a sentence with its number. An empty input has an empty table.
+
+",
+        observer_help!(),
+        "  --start TIME      the moment that the offsets count from
+",
+        format_help!(),
+        "
+  seq 0 60 600 | raddlehue batch sun --start 2026-11-15T09:30Z --lat 45 --lon 5
+"
+    ),
+    run,
+};
+
+/// A line as it was written, and its answer.
+struct Row {
+    line: String,
+    scales: Scales,
+    place: Place,
+}
+
+struct Track {
+    body: Body,
+    observer: Observer,
+    start: Option<Moment>,
+    rows: Vec<Row>,
+}
+
+fn run(words: &Words) -> Result<String, Failure> {
+    let format = Format::read(words)?;
+    let body = body(words.positional(0))?;
+    let observer = Observer::read(words)?;
+    let start = words.value("--start").map(Moment::read).transpose()?;
+    let lines = lines(&standard_input()?)?;
+    let rows = match start {
+        Some(start) => rows_after(start, body, observer, lines)?,
+        None => rows_at_times(body, observer, lines)?,
+    };
+    let track = Track { body, observer, start, rows };
+    Ok(match format {
+        Format::Text => text(&track),
+        Format::Json => json(&track),
+        Format::Csv => csv(&track),
+    })
+}
+
+// ---- lines
+
+fn standard_input() -> Result<Vec<u8>, Failure> {
+    let mut input = Vec::new();
+    io::stdin().lock().read_to_end(&mut input).map_err(|error| Failure::Broken("standard input cannot be read", error))?;
+    Ok(input)
+}
+
+// Nothing follows a final newline, and a last line may lack its own.
+fn lines(input: &[u8]) -> Result<Vec<String>, Failure> {
+    let whole = input.strip_suffix(b"\n").unwrap_or(input);
+    if input.is_empty() {
+        return Ok(Vec::new());
+    }
+    let read = |(index, line): (usize, &[u8])| match std::str::from_utf8(line) {
+        Ok(line) => Ok(line.to_string()),
+        Err(_) => Err(at_line(index, &String::from_utf8_lossy(line), "it is not text in UTF-8")),
+    };
+    whole.split(|&byte| byte == b'\n').enumerate().map(read).collect()
+}
+
+fn at_line(index: usize, line: &str, sentence: &str) -> Failure {
+    Failure::Line(format!("line {}, {}: {sentence}", index + 1, quoted(line)))
+}
+
+// What is wrong with the line itself is said with the line's number; what is wrong with the observer is left as it is.
+fn of_line(index: usize, line: &str, failure: Failure) -> Failure {
+    match failure {
+        Failure::Usage(sentence) | Failure::Refused(1..=4 | 13, sentence) => at_line(index, line, &sentence),
+        other => other,
+    }
+}
+
+fn rows_after(start: Moment, body: Body, observer: Observer, lines: Vec<String>) -> Result<Vec<Row>, Failure> {
+    let read = |(index, line): (usize, &String)| offset_tenths(line).map_err(|sentence| at_line(index, line, sentence));
+    let offsets: Vec<u32> = lines.iter().enumerate().map(read).collect::<Result<_, _>>()?;
+    let scales = observer.scales(start);
+    let places = sky::places(observer.view(start), body, &offsets).map_err(|refused| match refused.index {
+        Some(index) => of_line(index, lines.get(index).map_or("", String::as_str), refused.failure),
+        None => refused.failure,
+    })?;
+    Ok(lines.into_iter().zip(places).map(|(line, place)| Row { line, scales, place }).collect())
+}
+
+fn rows_at_times(body: Body, observer: Observer, lines: Vec<String>) -> Result<Vec<Row>, Failure> {
+    let answer = |(index, line): (usize, String)| {
+        let moment = Moment::read(&line).map_err(|failure| of_line(index, &line, failure))?;
+        let place = sky::place(observer.view(moment), body).map_err(|failure| of_line(index, &line, failure))?;
+        Ok(Row { line, scales: observer.scales(moment), place })
+    };
+    lines.into_iter().enumerate().map(answer).collect()
+}
+
+fn offset_tenths(line: &str) -> Result<u32, &'static str> {
+    let tenths = decimal::read(line, SECOND_DECIMALS as usize).map_err(|misread| match misread {
+        Misread::Form => "an offset is written in seconds, like 0, 12 or 12.5",
+        Misread::Decimals => "it has more than one decimal of a second, and the rest would be lost",
+        Misread::Size => TOO_FAR,
+    })?;
+    match u32::try_from(tenths) {
+        Ok(offset) => Ok(offset),
+        Err(_) if tenths < 0 => Err("an offset does not go back before the start"),
+        Err(_) => Err(TOO_FAR),
+    }
+}
+
+const TOO_FAR: &str = "an offset is at most 429496729.5 seconds";
+
+// ---- the three forms
+
+fn text(track: &Track) -> String {
+    let (name, what) = (format::body_name(track.body), if track.start.is_some() { "offset" } else { "time" });
+    let mut text = match track.start {
+        Some(start) => format!("{name} at offsets in seconds after {}\n", start.written()),
+        None => format!("{name} at times\n"),
+    };
+    text += &format!("{}\n{}", track.observer.words(), heading_scales(track));
+    text += "azimuth in degrees from north over east\nelevation in degrees above the horizon, without refraction\n\n";
+    let width = track.rows.iter().map(|row| row.line.len()).max().unwrap_or(0).max(what.len());
+    text += &format!("{what:>width$}  {:>12}  {:>12}\n", "azimuth", "elevation");
+    for Row { line, place, .. } in &track.rows {
+        text += &format!("{line:>width$}  {:>12}  {:>12}\n", angle(place.azimuth_e8), angle(place.elevation_e8));
+    }
+    text
+}
+
+// Times of their own may have several delta-Ts: the heading then says the least and the greatest.
+fn heading_scales(track: &Track) -> String {
+    if let Some(start) = track.start {
+        return scales_words(track.observer.scales(start));
+    }
+    let all = || track.rows.iter().map(|row| row.scales);
+    let by_delta_t = |scales: &Scales| scales.offsets.delta_t_tenths;
+    match (all().min_by_key(by_delta_t), all().max_by_key(by_delta_t)) {
+        (Some(least), Some(greatest)) => range_words(least, greatest),
+        _ => "no line, so that neither UT1 minus UTC nor delta-T is used\n".to_string(),
+    }
+}
+
+fn json(track: &Track) -> String {
+    let row = |row: &Row| {
+        let key = if track.start.is_some() {
+            format!("\"offset_seconds\": {}", row.line)
+        } else {
+            format!("\"time\": \"{}\"", row.line)
+        };
+        format!("{{{key}, {}, {}}}", format::json_place(row.place), format::json_scales(row.scales))
+    };
+    let rows: Vec<String> = track.rows.iter().map(row).collect();
+    let start = track.start.map(|start| format!(", \"start\": \"{}\"", start.written())).unwrap_or_default();
+    format::json_object(&[
+        format!("\"body\": \"{}\"{start}", format::body_key(track.body)),
+        format::json_spot(track.observer.spot),
+        format::json_forecast(),
+        "\"refraction_included\": false".to_string(),
+        format!("\"places\": {}", format::json_rows(&rows)),
+    ])
+}
+
+fn csv(track: &Track) -> String {
+    let key = if track.start.is_some() { "offset_seconds" } else { "time" };
+    let row = |row: &Row| format!("{},{},{}", row.line, format::csv_place(row.place), format::csv_scales(row.scales));
+    let head = format!("{key},azimuth_degrees,elevation_degrees,{}", format::CSV_SCALES);
+    format::csv(&head, track.rows.iter().map(row))
+}
+
+#[cfg(test)]
+mod tests {
+    use super::*;
+
+    #[test]
+    fn lines_end_at_newlines() {
+        assert_eq!(lines(b"").unwrap(), Vec::<String>::new());
+        assert_eq!(lines(b"1\n2\n").unwrap(), ["1", "2"]);
+        assert_eq!(lines(b"1\n2").unwrap(), ["1", "2"]);
+        assert_eq!(lines(b"\n").unwrap(), [""]);
+        assert_eq!(lines(b"1\n\n").unwrap(), ["1", ""]);
+        assert!(lines(b"1\n\xff\n").unwrap_err().sentence().unwrap().starts_with("line 2, "));
+    }
+
+    #[test]
+    fn offsets_are_tenths() {
+        assert_eq!(offset_tenths("0"), Ok(0));
+        assert_eq!(offset_tenths("12.5"), Ok(125));
+        assert_eq!(offset_tenths("429496729.5"), Ok(u32::MAX));
+        for line in [
+            "", " 1", "1 ", "1\r", "-1", "+1", "12.55", "429496729.6", "1e3", "1,5", "0x1", "nan", "99999999999999999999",
+            "2026-11-15T19:30Z",
+        ] {
+            assert!(offset_tenths(line).is_err(), "{line:?}");
+        }
+    }
+}

@@ -1,0 +1,157 @@
+//! The three forms of an answer: words for people, JSON and CSV for programs. Every figure's unit is in its name.
+//!
+//! No text here needs an escape in JSON or in CSV: it is figures, times and fixed words.
+
+use crate::decimal;
+use crate::delta_t::Scales;
+use crate::failure::Failure;
+use crate::sky::{Body, Place, Spot, ANGLE_DECIMALS, POINT_DECIMALS};
+use crate::words::{Flag, Words};
+
+pub const FLAGS: &[Flag] = &[("--json", None), ("--csv", None)];
+
+macro_rules! format_help {
+    () => {
+        "  --json            one JSON object, units in the names
+  --csv             CSV by RFC 4180 (lines end in CR LF), units in its head
+"
+    };
+}
+pub(crate) use format_help;
+
+#[derive(Clone, Copy, Debug, PartialEq, Eq)]
+pub enum Format {
+    Text,
+    Json,
+    Csv,
+}
+
+impl Format {
+    pub fn read(words: &Words) -> Result<Format, Failure> {
+        match (words.has("--json"), words.has("--csv")) {
+            (true, true) => Err(words.usage("of --json and --csv only one can be given")),
+            (true, false) => Ok(Format::Json),
+            (false, true) => Ok(Format::Csv),
+            (false, false) => Ok(Format::Text),
+        }
+    }
+}
+
+// ---- figures
+
+/// Degrees with all the decimals that the library gives.
+pub fn angle(units_e8: i64) -> String {
+    decimal::written(units_e8, ANGLE_DECIMALS)
+}
+
+/// Degrees of a double, which only refraction needs; to the same decimals, and never a zero with a minus.
+pub fn angle_of_double(degrees: f64) -> String {
+    let text = format!("{degrees:.8}");
+    let is_zero = text.bytes().all(|byte| matches!(byte, b'-' | b'0' | b'.'));
+    if is_zero {
+        text.replace('-', "")
+    } else {
+        text
+    }
+}
+
+pub fn body_name(body: Body) -> &'static str {
+    match body {
+        Body::Sun => "Sun",
+        Body::Moon => "Moon",
+    }
+}
+
+pub fn body_key(body: Body) -> &'static str {
+    match body {
+        Body::Sun => "sun",
+        Body::Moon => "moon",
+    }
+}
+
+// ---- JSON
+
+/// The members that say where the observer stands.
+pub fn json_spot(spot: Spot) -> String {
+    let degrees = |units_e7| decimal::written(units_e7, POINT_DECIMALS);
+    format!(
+        "\"latitude_degrees\": {}, \"longitude_degrees\": {}, \"height_metres\": {}",
+        degrees(spot.latitude_e7),
+        degrees(spot.longitude_e7),
+        spot.height_metres
+    )
+}
+
+/// The members that say both time scales and where they come from.
+pub fn json_scales(scales: Scales) -> String {
+    format!(
+        "\"ut1_minus_utc_seconds\": {}, \"ut1_minus_utc_source\": \"{}\", \"delta_t_seconds\": {}, \"delta_t_source\": \"{}\"",
+        scales.ut1_seconds(),
+        scales.ut1_source.key(),
+        scales.delta_t_seconds(),
+        scales.delta_t_source.key()
+    )
+}
+
+/// The member that says from which year on the table of delta-T is a forecast.
+pub fn json_forecast() -> String {
+    format!("\"delta_t_forecast_begins_about_year\": {}", crate::delta_t::OBSERVED_TO)
+}
+
+pub fn json_place(place: Place) -> String {
+    format!("\"azimuth_degrees\": {}, \"elevation_degrees\": {}", angle(place.azimuth_e8), angle(place.elevation_e8))
+}
+
+/// One element a line.
+pub fn json_rows(rows: &[String]) -> String {
+    if rows.is_empty() {
+        return "[]".to_string();
+    }
+    format!("[\n    {}\n  ]", rows.join(",\n    "))
+}
+
+/// One member, or one group of members, a line.
+pub fn json_object(members: &[String]) -> String {
+    format!("{{\n  {}\n}}\n", members.join(",\n  "))
+}
+
+// ---- CSV
+
+pub const CSV_SCALES: &str = "ut1_minus_utc_seconds,ut1_minus_utc_source,delta_t_seconds,delta_t_source";
+
+pub fn csv_scales(scales: Scales) -> String {
+    let (ut1, delta_t) = (scales.ut1_seconds(), scales.delta_t_seconds());
+    format!("{ut1},{},{delta_t},{}", scales.ut1_source.key(), scales.delta_t_source.key())
+}
+
+pub fn csv_place(place: Place) -> String {
+    format!("{},{}", angle(place.azimuth_e8), angle(place.elevation_e8))
+}
+
+/// A head and its rows, each ended as the RFC has it.
+pub fn csv(head: &str, rows: impl IntoIterator<Item = String>) -> String {
+    let mut text = format!("{head}\r\n");
+    for row in rows {
+        text += &row;
+        text += "\r\n";
+    }
+    text
+}
+
+#[cfg(test)]
+mod tests {
+    use super::*;
+
+    #[test]
+    fn no_zero_has_a_minus() {
+        assert_eq!((angle_of_double(-1e-12), angle_of_double(-0.0)), ("0.00000000".into(), "0.00000000".into()));
+        assert_eq!((angle_of_double(-0.00133), angle_of_double(39.888_378_0)), ("-0.00133000".into(), "39.88837800".into()));
+        assert_eq!(angle_of_double(-10.0), "-10.00000000");
+    }
+
+    #[test]
+    fn lists_may_be_empty() {
+        assert_eq!(json_object(&["\"rows\": ".to_string() + &json_rows(&[])]), "{\n  \"rows\": []\n}\n");
+        assert_eq!(csv("a,b", ["1,2".to_string()]), "a,b\r\n1,2\r\n");
+    }
+}

@@ -1,0 +1,116 @@
+//! Every call of the proved library, and nothing else: what is asked of it, and its refusals in its own words.
+
+use crate::failure::Failure;
+use crate::time::{Clock, Moment};
+use raddlehue::{Air, Point, Refusal, Start};
+
+pub use raddlehue::{Body, Place, Shown};
+
+/// Decimals of the library's angles, of a point's degrees and of a second.
+pub const ANGLE_DECIMALS: u32 = 8;
+pub const POINT_DECIMALS: u32 = 7;
+pub const SECOND_DECIMALS: u32 = 1;
+
+pub const DEGREE_E8: i64 = raddlehue::DEGREE_E8;
+pub const VERSION: &str = raddlehue::VERSION;
+
+/// What turns UTC into the two time scales of the sky, in tenths of a second.
+#[derive(Clone, Copy, Debug, PartialEq, Eq)]
+pub struct Offsets {
+    pub ut1_tenths: i64,
+    pub delta_t_tenths: i64,
+}
+
+/// Where the observer stands.
+#[derive(Clone, Copy, Debug, PartialEq, Eq)]
+pub struct Spot {
+    pub latitude_e7: i64,
+    pub longitude_e7: i64,
+    pub height_metres: i64,
+}
+
+/// When and from where: the part of a question that all commands share.
+#[derive(Clone, Copy, Debug)]
+pub struct View {
+    pub moment: Moment,
+    pub offsets: Offsets,
+    pub spot: Spot,
+}
+
+impl View {
+    fn start(self) -> Start {
+        let Offsets { ut1_tenths, delta_t_tenths } = self.offsets;
+        start_of(self.moment.in_utc().clock()).ut1_tenths(ut1_tenths).delta_t_tenths(delta_t_tenths)
+    }
+
+    fn point(self) -> Point {
+        let Spot { latitude_e7, longitude_e7, height_metres } = self.spot;
+        Point { longitude_e7, latitude_e7, height_metres }
+    }
+}
+
+fn start_of(clock: Clock) -> Start {
+    let Clock { date, hour, minute, second, tenth } = clock;
+    Start::utc(date.year, date.month, date.day, hour, minute, second).fraction_tenths(tenth)
+}
+
+/// The place without refraction.
+pub fn place(view: View, body: Body) -> Result<Place, Failure> {
+    raddlehue::place(view.start(), body, view.point(), Air::None).map_err(|refusal| refused(refusal, view.moment))
+}
+
+/// The place with refraction; the air is in mbar and in degrees Celsius.
+pub fn shown_place(view: View, body: Body, pressure_mbar: f64, temperature_celsius: f64) -> Result<Shown, Failure> {
+    let air = Air::Measured { pressure_mbar, temperature_celsius };
+    raddlehue::shown_place(view.start(), body, view.point(), air).map_err(|refusal| refused(refusal, view.moment))
+}
+
+/// Why many places are refused, and at which offset where it is one that is too late.
+pub struct TrackRefused {
+    pub index: Option<usize>,
+    pub failure: Failure,
+}
+
+impl From<TrackRefused> for Failure {
+    fn from(refused: TrackRefused) -> Failure {
+        refused.failure
+    }
+}
+
+/// Places without refraction at offsets in tenths of a second after the view's moment.
+pub fn places(view: View, body: Body, offsets_tenths: &[u32]) -> Result<Vec<Place>, TrackRefused> {
+    raddlehue::places(view.start(), body, view.point(), offsets_tenths).map_err(|refusal| match refusal {
+        Refusal::TooLate { index } => {
+            let offset = offsets_tenths.get(index).copied().unwrap_or(0);
+            TrackRefused { index: Some(index), failure: refused(refusal, view.moment.later(offset)) }
+        }
+        _ => TrackRefused { index: None, failure: refused(refusal, view.moment) },
+    })
+}
+
+/// The middle of two azimuths, all in 1e-8 degree.
+pub fn middle(a_e8: i64, b_e8: i64) -> Result<i64, Failure> {
+    raddlehue::middle(a_e8, b_e8).map_err(|refusal| Failure::Refused(refusal.number(), numbered(refusal)))
+}
+
+// ---- refusals
+
+fn numbered(refusal: Refusal) -> String {
+    format!("refused {}: {}", refusal.number(), refusal.sentence())
+}
+
+// A moment is said in UTC, since a zone or an offset may have moved it out of the years that are answered.
+fn refused(refusal: Refusal, moment: Moment) -> Failure {
+    let of_moment = matches!(refusal.number(), 1..=4 | 13);
+    let asked = if of_moment { format!(" (asked for {})", moment.in_utc().written()) } else { String::new() };
+    Failure::Refused(refusal.number(), numbered(refusal) + &asked)
+}
+
+/// The library's refusal of a time that no clock shows.
+pub fn refused_clock(clock: Clock) -> Failure {
+    let nowhere = Point { longitude_e7: 0, latitude_e7: 0, height_metres: 0 };
+    match raddlehue::place(start_of(clock), Body::Sun, nowhere, Air::None) {
+        Err(refusal) => Failure::Refused(refusal.number(), numbered(refusal)),
+        Ok(_) => Failure::Usage("there is no such time".to_string()),
+    }
+}

@@ -1,0 +1,293 @@
+//! Moments in ISO 8601: dates, times of the day with their zone, and what they are in UTC.
+
+use crate::calendar::Date;
+use crate::failure::{quoted, Failure};
+use crate::sky;
+
+const TENTHS_OF_DAY: i64 = 864_000;
+const TENTHS_OF_MINUTE: i64 = 600;
+
+const DATE_WOULD_BE: &str = "a date is written like 2026-11-15";
+const TIME_WOULD_BE: &str = "a time is written like 2026-11-15T19:30Z, 2026-11-15T19:30:30.5Z or 2026-11-16T08:30+13:00";
+const ZONE_WOULD_BE: &str = "a zone is written Z or like +13:00, from -12:00 to +14:00";
+
+// ---- zones
+
+/// Minutes of a zone's clock ahead of UTC.
+#[derive(Clone, Copy, Debug, PartialEq, Eq)]
+pub struct Zone {
+    minutes: i64,
+}
+
+pub const UTC: Zone = Zone { minutes: 0 };
+
+impl Zone {
+    pub fn read(word: &str) -> Result<Zone, Failure> {
+        Zone::parsed(word).ok_or_else(|| Failure::Usage(format!("the zone {} cannot be read: {ZONE_WOULD_BE}", quoted(word))))
+    }
+
+    // No clock on Earth is further from UTC than these, so that one that is has been mistyped.
+    fn parsed(word: &str) -> Option<Zone> {
+        if word == "Z" {
+            return Some(UTC);
+        }
+        let &[sign, h1, h2, b':', m1, m2] = word.as_bytes() else { return None };
+        let (hours, minutes) = (number(&[h1, h2])?, number(&[m1, m2])?);
+        let minutes = match sign {
+            b'+' => 60 * hours + minutes,
+            b'-' if hours + minutes > 0 => -60 * hours - minutes,
+            _ => return None,
+        };
+        let on_earth = number(&[m1, m2])? < 60 && (-12 * 60..=14 * 60).contains(&minutes);
+        on_earth.then_some(Zone { minutes })
+    }
+
+    pub fn written(self) -> String {
+        match self.minutes {
+            0 => "Z".to_string(),
+            ahead => format!("{}{:02}:{:02}", if ahead < 0 { '-' } else { '+' }, ahead.abs() / 60, ahead.abs() % 60),
+        }
+    }
+
+    /// As a heading says it.
+    pub fn words(self) -> String {
+        if self == UTC {
+            "UTC".to_string()
+        } else {
+            format!("UTC{}", self.written())
+        }
+    }
+}
+
+// ---- moments
+
+/// A tenth of a second of UTC, counted from 2000-01-01 00:00, and the zone to write it in.
+#[derive(Clone, Copy, Debug, PartialEq, Eq)]
+pub struct Moment {
+    tenths: i64,
+    zone: Zone,
+}
+
+/// What a clock and a calendar in some zone show.
+#[derive(Clone, Copy, Debug, PartialEq, Eq)]
+pub struct Clock {
+    pub date: Date,
+    pub hour: i64,
+    pub minute: i64,
+    pub second: i64,
+    pub tenth: i64,
+}
+
+impl Clock {
+    fn exists(self) -> bool {
+        let Clock { date, hour, minute, second, tenth } = self;
+        date.exists()
+            && (0..24).contains(&hour)
+            && (0..60).contains(&minute)
+            && (0..60).contains(&second)
+            && (0..10).contains(&tenth)
+    }
+
+    fn tenths(self) -> i64 {
+        let seconds = 3_600 * self.hour + 60 * self.minute + self.second;
+        TENTHS_OF_DAY * self.date.day_number() + 10 * seconds + self.tenth
+    }
+}
+
+impl Moment {
+    /// A time that a zone's clock never shows is refused in the library's words.
+    fn at(clock: Clock, zone: Zone) -> Result<Moment, Failure> {
+        if !clock.exists() {
+            return Err(sky::refused_clock(clock));
+        }
+        Ok(Moment { tenths: clock.tenths() - TENTHS_OF_MINUTE * zone.minutes, zone })
+    }
+
+    /// A time with its zone, from one word.
+    pub fn read(word: &str) -> Result<Moment, Failure> {
+        let unread = || Failure::Usage(format!("the time {} cannot be read: {}", quoted(word), what_is_wrong(word)));
+        let (clock, zone) = clock_and_zone(word).ok_or_else(unread)?;
+        Moment::at(clock, zone)
+    }
+
+    /// The first moment of a date in a zone.
+    pub fn midnight(word: &str, zone: Zone) -> Result<Moment, Failure> {
+        let unread = || Failure::Usage(format!("the date {} cannot be read: {DATE_WOULD_BE}", quoted(word)));
+        let date = date(word.as_bytes()).ok_or_else(unread)?;
+        Moment::at(Clock { date, hour: 0, minute: 0, second: 0, tenth: 0 }, zone)
+    }
+
+    pub fn later(self, tenths: u32) -> Moment {
+        Moment { tenths: self.tenths + i64::from(tenths), ..self }
+    }
+
+    pub fn in_utc(self) -> Moment {
+        Moment { zone: UTC, ..self }
+    }
+
+    /// What its zone's clock shows.
+    pub fn clock(self) -> Clock {
+        let local = self.tenths + TENTHS_OF_MINUTE * self.zone.minutes;
+        let of_day = local.rem_euclid(TENTHS_OF_DAY);
+        Clock {
+            date: Date::of_day_number(local.div_euclid(TENTHS_OF_DAY)),
+            hour: of_day / 36_000,
+            minute: of_day / 600 % 60,
+            second: of_day / 10 % 60,
+            tenth: of_day % 10,
+        }
+    }
+
+    pub fn zone(self) -> Zone {
+        self.zone
+    }
+
+    /// How much of its UTC year is over, and how long that year is, in tenths of a second.
+    pub fn of_year(self) -> (i64, i64, i64) {
+        let year = self.in_utc().clock().date.year;
+        let new_year = |year| TENTHS_OF_DAY * Date { year, month: 1, day: 1 }.day_number();
+        (year, self.tenths - new_year(year), new_year(year + 1) - new_year(year))
+    }
+
+    /// In ISO 8601, the tenth only where there is one.
+    pub fn written(self) -> String {
+        let Clock { date, hour, minute, second, tenth } = self.clock();
+        let tenth = if tenth == 0 { String::new() } else { format!(".{tenth}") };
+        format!("{}T{hour:02}:{minute:02}:{second:02}{tenth}{}", date.written(), self.zone.written())
+    }
+
+    /// Hour and minute, for a table whose heading says the date and the zone.
+    pub fn hour_and_minute(self) -> String {
+        let Clock { hour, minute, .. } = self.clock();
+        format!("{hour:02}:{minute:02}")
+    }
+}
+
+// ---- reading
+
+fn number(digits: &[u8]) -> Option<i64> {
+    let all = digits.iter().all(u8::is_ascii_digit);
+    all.then(|| digits.iter().fold(0, |sum, digit| 10 * sum + i64::from(digit - b'0')))
+}
+
+fn date(word: &[u8]) -> Option<Date> {
+    let &[y1, y2, y3, y4, b'-', m1, m2, b'-', d1, d2] = word else { return None };
+    Some(Date { year: number(&[y1, y2, y3, y4])?, month: number(&[m1, m2])?, day: number(&[d1, d2])? })
+}
+
+// Seconds and their tenth may be left out.
+fn clock_and_zone(word: &str) -> Option<(Clock, Zone)> {
+    let (day, rest) = word.split_once('T')?;
+    let date = date(day.as_bytes())?;
+    let zone_at = rest.find(['Z', '+', '-'])?;
+    let (time, zone) = rest.split_at(zone_at);
+    let zone = Zone::parsed(zone)?;
+    let (h, m, s, tenth) = match *time.as_bytes() {
+        [h1, h2, b':', m1, m2] => ([h1, h2], [m1, m2], *b"00", *b"0"),
+        [h1, h2, b':', m1, m2, b':', s1, s2] => ([h1, h2], [m1, m2], [s1, s2], *b"0"),
+        [h1, h2, b':', m1, m2, b':', s1, s2, b'.', t] => ([h1, h2], [m1, m2], [s1, s2], [t]),
+        _ => return None,
+    };
+    let clock = Clock { date, hour: number(&h)?, minute: number(&m)?, second: number(&s)?, tenth: number(&tenth)? };
+    Some((clock, zone))
+}
+
+// The two mistakes that are most easily made have sentences of their own.
+fn what_is_wrong(word: &str) -> String {
+    let tail = word.split_once('T').map_or("", |(_, tail)| tail);
+    let decimals = tail.split_once('.').map_or(0, |(_, part)| part.bytes().take_while(u8::is_ascii_digit).count());
+    if decimals > 1 {
+        format!("it has more than one decimal of a second, and the rest would be lost; {TIME_WOULD_BE}")
+    } else if !tail.is_empty() && !tail.contains(['Z', '+', '-']) {
+        format!("it has no zone; {TIME_WOULD_BE}")
+    } else {
+        format!("{TIME_WOULD_BE}; {ZONE_WOULD_BE}")
+    }
+}
+
+#[cfg(test)]
+mod tests {
+    use super::*;
+
+    fn utc(word: &str) -> String {
+        Moment::read(word).unwrap().in_utc().written()
+    }
+
+    fn sentence(word: &str) -> String {
+        Moment::read(word).unwrap_err().sentence().unwrap()
+    }
+
+    #[test]
+    fn times_are_read() {
+        assert_eq!(utc("2026-11-15T19:30:30.5Z"), "2026-11-15T19:30:30.5Z");
+        assert_eq!(utc("2026-11-15T19:30:30Z"), "2026-11-15T19:30:30Z");
+        assert_eq!(utc("2026-11-15T19:30Z"), "2026-11-15T19:30:00Z");
+        assert_eq!(utc("2026-11-16T08:30+13:00"), "2026-11-15T19:30:00Z");
+        assert_eq!(utc("2026-12-31T23:59:59.9-00:30"), "2027-01-01T00:29:59.9Z");
+        assert_eq!(utc("2101-01-01T05:00+13:00"), "2100-12-31T16:00:00Z");
+        assert_eq!(Moment::read("2026-11-16T08:30+13:00").unwrap().written(), "2026-11-16T08:30:00+13:00");
+    }
+
+    #[test]
+    fn what_is_no_time_is_not_read() {
+        let words = [
+            "", "T", "Z", "2026-11-15", "2026-11-15T", "2026-11-15TZ", "2026-11-15T19Z", "2026-11-15 19:30Z",
+            "2026-11-15t19:30z", "2026-11-15T19:30z", "2026-8-9T00:00Z", "26-11-15T19:30Z", "2026-11-15T9:30Z",
+            "2026-11-15T19:30:30,5Z", "2026-11-15T19:30:30.Z", "2026-11-15T19:30:30.5", "2026-11-15T19:30+13",
+            "2026-11-15T19:30+1300", "2026-11-15T19:30-00:00", "2026-11-15T19:30+14:01", "2026-11-15T19:30-12:01",
+            "2026-11-15T19:30+13:60", "2026-11-15T19:30Z ", " 2026-11-15T19:30Z", "2026-11-15T19:30ZZ", "2026-W46-7T19:30Z",
+            "+2026-11-15T19:30Z",
+        ];
+        for word in words {
+            assert!(matches!(Moment::read(word), Err(Failure::Usage(_))), "{word:?}");
+            assert!(sentence(word).contains(&format!("{word:?}")), "{word:?}");
+        }
+        assert!(sentence("2026-11-15T19:30:30.55Z").contains("more than one decimal"));
+        assert!(sentence("2026-11-15T19:30:30").contains("no zone"));
+    }
+
+    #[test]
+    fn what_no_clock_shows_is_refused_by_the_library() {
+        let refusals = [
+            ("2026-02-29T00:00Z", 3),
+            ("2026-13-01T00:00Z", 2),
+            ("2026-01-01T24:00Z", 4),
+            ("2026-01-01T23:60Z", 4),
+            ("2016-12-31T23:59:60Z", 4),
+        ];
+        for (word, number) in refusals {
+            assert!(matches!(Moment::read(word), Err(Failure::Refused(..))), "{word}");
+            assert!(sentence(word).contains(&format!("refused {number}:")), "{word}");
+        }
+        assert!(sentence("2101-02-30T00:00Z").contains("refused 1:"));
+        assert!(sentence("2026-02-30T00:00+13:00").contains("refused 3:"));
+    }
+
+    #[test]
+    fn zones_are_read() {
+        for (word, minutes) in
+            [("Z", 0), ("+00:00", 0), ("+13:00", 780), ("-12:00", -720), ("+05:45", 345), ("-03:30", -210), ("+14:00", 840)]
+        {
+            assert_eq!(Zone::read(word).unwrap(), Zone { minutes }, "{word}");
+        }
+        for word in ["", "13:00", "+13", "+1300", "UTC", "z", "+24:00", "-00:00", "+1:00", "+13:5", "NZDT", "\u{2212}03:00"] {
+            assert!(matches!(Zone::read(word), Err(Failure::Usage(_))), "{word:?}");
+        }
+    }
+
+    #[test]
+    fn midnight_is_that_of_the_zone() {
+        let midnight = Moment::midnight("2026-11-15", Zone::read("+13:00").unwrap()).unwrap();
+        assert_eq!(midnight.in_utc().written(), "2026-11-14T11:00:00Z");
+        assert_eq!(midnight.later(36_000).hour_and_minute(), "01:00");
+        for word in ["", "2026", "2026-8-9", "20261115", "2026-11-15T00:00Z", "15.11.2026", "2026-11-1x", "２０２６-11-15"] {
+            assert!(matches!(Moment::midnight(word, UTC), Err(Failure::Usage(_))), "{word:?}");
+        }
+    }
+
+    #[test]
+    fn the_part_of_a_year() {
+        let moment = Moment::read("2024-12-31T00:00Z").unwrap();
+        assert_eq!(moment.of_year(), (2024, 365 * TENTHS_OF_DAY, 366 * TENTHS_OF_DAY));
+    }
+}
