@@ -15,6 +15,7 @@ mod failure;
 mod format;
 mod middle;
 mod observer;
+mod picture;
 mod place;
 mod sky;
 mod time;
@@ -26,7 +27,7 @@ use std::io::{self, Write};
 use std::process::ExitCode;
 use words::{Command, Words};
 
-const COMMANDS: [&Command; 4] = [&day::COMMAND, &place::COMMAND, &batch::COMMAND, &middle::COMMAND];
+const COMMANDS: [&Command; 5] = [&day::COMMAND, &place::COMMAND, &batch::COMMAND, &middle::COMMAND, &picture::COMMAND];
 
 const ABOUT: &str = "raddlehue: where the Sun and the Moon stand
 ";

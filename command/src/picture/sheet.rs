@@ -1,0 +1,186 @@
+//! The sheet itself: dome, grid, paths, marks and words, in units of which the width has 1000, so that it can be read on a phone.
+
+use super::dome::{self, meridian, spot, Dot, Spot, HORIZON, LOWEST, ZENITH};
+use super::labels::{Frame, Labels};
+use super::story::{class_of, Story};
+use super::style;
+use super::track::Track;
+use crate::format::body_name;
+use crate::sky::Body;
+use std::fmt::Write;
+
+const WIDTH: f64 = 1000.0;
+const HEIGHT: f64 = 1330.0;
+const MARGIN: f64 = 40.0;
+
+/// Lines of text under the dome: the first one's foot, from one to the next, and where they begin beside a sample of a path.
+const FIRST_LINE: f64 = 985.0;
+const LINE: f64 = 52.0;
+const INDENT: f64 = 150.0;
+
+/// From the middle of a letter's height to the foot of the line.
+const TO_FOOT: f64 = 13.0;
+
+const COMPASS: [&str; 8] = ["N", "NE", "E", "SE", "S", "SW", "W", "NW"];
+const ELEVATIONS: [f64; 3] = [0.0, 30.0, 60.0];
+
+/// Points of a line that lie nearer than this to the one before are left out.
+const NEAR: f64 = 4.0;
+
+pub fn drawn(story: &Story, centre: f64, tracks: &[Track; 2]) -> String {
+    let mut svg = format!(
+        "<svg xmlns=\"http://www.w3.org/2000/svg\" viewBox=\"0 0 {WIDTH} {HEIGHT}\" lang=\"en\" role=\"img\" \
+         aria-labelledby=\"raddlehue-title raddlehue-desc\">\n\
+         <title id=\"raddlehue-title\">{}, {}</title>\n<desc id=\"raddlehue-desc\">{}</desc>\n{}\
+         <rect class=\"page\" width=\"{WIDTH}\" height=\"{HEIGHT}\"/>\n\
+         <text class=\"title\" x=\"{MARGIN}\" y=\"60\">{}</text>\n<text x=\"{MARGIN}\" y=\"112\">{}</text>\n",
+        story.title,
+        story.place,
+        story.description,
+        style::sheet(),
+        story.title,
+        story.place
+    );
+    svg += &grid(centre);
+    for track in tracks {
+        svg += &path(track);
+    }
+    svg += &names(tracks);
+    svg += &legend(story, tracks);
+    svg + "</svg>\n"
+}
+
+fn text(class: &str, (x, y): Spot, words: &str) -> String {
+    format!("<text class=\"{class}\" x=\"{x:.1}\" y=\"{:.1}\">{words}</text>\n", y + TO_FOOT)
+}
+
+fn stroke(spots: impl IntoIterator<Item = Spot>) -> String {
+    let mut text = String::new();
+    for (x, y) in spots {
+        let _ = write!(text, "{}{x:.1} {y:.1}", if text.is_empty() { 'M' } else { 'L' });
+    }
+    text
+}
+
+// ---- the dome
+
+fn grid(centre: f64) -> String {
+    let outline = |highest| meridian(-180.0, highest).into_iter().chain(meridian(180.0, highest).into_iter().rev());
+    let (sky, ground) = (stroke(outline(90.0)), stroke(outline(0.0)));
+    let mut svg = format!("<path class=\"sky\" d=\"{sky}Z\"/>\n<path class=\"ground\" d=\"{ground}Z\"/>\n");
+    let below = spot(Dot { right: 0.0, up: LOWEST }).1;
+    for step in 0..=8 {
+        let right = -180.0 + 45.0 * step as f64;
+        let azimuth = (45 * step + centre as usize + 180) % 360;
+        let (x, _) = spot(Dot { right, up: LOWEST });
+        let _ = writeln!(svg, "<path class=\"grid\" d=\"{}\"/>", stroke(meridian(right, 90.0)));
+        svg += &text("middle", (x, below + 32.0), COMPASS[azimuth / 45]);
+        if step % 2 == 0 {
+            svg += &text("middle", (x, below + 78.0), &format!("{azimuth}°"));
+        }
+    }
+    for up in ELEVATIONS {
+        let ((left, y), (right, _)) = (spot(Dot { right: -180.0, up }), spot(Dot { right: 180.0, up }));
+        let class = if up == 0.0 { "horizon" } else { "grid" };
+        let _ = writeln!(svg, "<path class=\"{class}\" d=\"M{left:.1} {y:.1}H{right:.1}\"/>");
+    }
+    for (middle, words) in elevation_labels() {
+        svg += &text("middle", middle, &words);
+    }
+    svg
+}
+
+// At the dome's left edge, and above its upper end.
+fn elevation_labels() -> Vec<(Spot, String)> {
+    let at_edge = ELEVATIONS.map(|up| {
+        let (x, y) = spot(Dot { right: -180.0, up });
+        ((x - 42.0, y), format!("{up}°"))
+    });
+    let zenith = ((dome::MIDDLE, ZENITH - 30.0), "90°".to_string());
+    at_edge.into_iter().chain([zenith]).collect()
+}
+
+// ---- the paths
+
+fn path(track: &Track) -> String {
+    let lines: String = track.lines.iter().map(|line| stroke(thinned(line))).collect();
+    let mut svg = String::new();
+    if !lines.is_empty() {
+        let _ = writeln!(svg, "<path class=\"{} path\" d=\"{lines}\"/>", class_of(track.body));
+    }
+    for (_, dot) in marked(track) {
+        svg += &mark(track.body, spot(dot));
+    }
+    svg
+}
+
+// The hours of the day on the sheet, but for the second midnight.
+fn marked(track: &Track) -> impl Iterator<Item = (usize, Dot)> + '_ {
+    track.hours.iter().copied().enumerate().take(24).filter(|(_, dot)| dot.up >= LOWEST)
+}
+
+// Without the points that are too near to be seen apart, but with both ends.
+fn thinned(line: &[Dot]) -> Vec<Spot> {
+    let mut kept: Vec<Spot> = Vec::new();
+    for (index, (x, y)) in line.iter().map(|&dot| spot(dot)).enumerate() {
+        let far = kept.last().is_none_or(|last| (x - last.0).hypot(y - last.1) >= NEAR);
+        if far || index + 1 == line.len() {
+            kept.push((x, y));
+        }
+    }
+    kept
+}
+
+fn mark(body: Body, (x, y): Spot) -> String {
+    match body {
+        Body::Sun => format!("<circle class=\"sun-mark\" cx=\"{x:.1}\" cy=\"{y:.1}\" r=\"10\"/>\n"),
+        Body::Moon => format!("<path class=\"moon-mark\" d=\"M{x:.1} {:.1}l12 12l-12 12l-12 -12z\"/>\n", y - 12.0),
+    }
+}
+
+// ---- words in the dome
+
+// Names first, since they cannot be spared; then each third hour above the horizon.
+fn names(tracks: &[Track; 2]) -> String {
+    let spots = |track: &Track| track.lines.iter().flatten().map(|&dot| spot(dot)).collect();
+    let frame = Frame { left: 0.0, right: WIDTH, top: ZENITH - 50.0, bottom: HORIZON };
+    let mut labels = Labels::new(frame, [spots(&tracks[0]), spots(&tracks[1])]);
+    elevation_labels().iter().for_each(|(middle, words)| labels.reserve(*middle, words));
+    let mut svg = String::new();
+    for (path, track) in tracks.iter().enumerate() {
+        let dots = track.lines.iter().flatten().filter(|dot| dot.up >= 0.0);
+        if let Some(&top) = dots.max_by(|a, b| a.up.total_cmp(&b.up)) {
+            let (name, class) = (body_name(track.body), class_of(track.body));
+            svg += &text(&format!("middle on-sky name {class}-name"), labels.place(path, spot(top), name), name);
+        }
+    }
+    for (path, track) in tracks.iter().enumerate() {
+        let class = format!("middle on-sky {}-name", class_of(track.body));
+        for (hour, dot) in marked(track).filter(|(hour, dot)| hour % 3 == 0 && dot.up >= 0.0) {
+            let words = format!("{hour:02}");
+            svg += &labels.place_if_clear(path, spot(dot), &words).map_or(String::new(), |middle| text(&class, middle, &words));
+        }
+    }
+    svg
+}
+
+// ---- words under the dome
+
+fn legend(story: &Story, tracks: &[Track; 2]) -> String {
+    let mut svg = String::new();
+    let mut foot = FIRST_LINE;
+    for (track, lines) in tracks.iter().zip(&story.bodies) {
+        let y = foot - TO_FOOT;
+        let _ = writeln!(svg, "<path class=\"{} path\" d=\"M{MARGIN} {y}h90\"/>", class_of(track.body));
+        svg += &mark(track.body, (MARGIN + 45.0, y));
+        for line in lines {
+            let _ = writeln!(svg, "<text x=\"{INDENT}\" y=\"{foot}\">{line}</text>");
+            foot += LINE;
+        }
+    }
+    for note in &story.notes {
+        let _ = writeln!(svg, "<text x=\"{MARGIN}\" y=\"{foot}\">{note}</text>");
+        foot += LINE;
+    }
+    svg
+}
