@@ -1,0 +1,235 @@
+//! What is answered: the published example, the forms, the streams and their failures.
+
+use std::fs::OpenOptions;
+use std::io::Write;
+use std::process::{Command, Output, Stdio};
+
+const BOULDER: [&str; 8] = ["--lat", "39.742476", "--lon", "-105.1786", "--height", "1830", "--delta-t", "67"];
+const DUNEDIN: [&str; 6] = ["--lat", "45.5S", "--lon", "170.5E", "--zone", "+13:00"];
+
+fn raddlehue(words: &[&str]) -> Command {
+    let mut command = Command::new(env!("CARGO_BIN_EXE_raddlehue"));
+    command.args(words);
+    command
+}
+
+fn output(words: &[&str], input: &str) -> Output {
+    let mut child = raddlehue(words).stdin(Stdio::piped()).stdout(Stdio::piped()).stderr(Stdio::piped()).spawn().unwrap();
+    child.stdin.take().unwrap().write_all(input.as_bytes()).unwrap();
+    child.wait_with_output().unwrap()
+}
+
+/// The standard output of what is answered without a word on the standard error.
+fn answer(words: &[&str], input: &str) -> String {
+    let output = output(words, input);
+    assert_eq!(output.status.code(), Some(0), "{words:?}: {}", String::from_utf8_lossy(&output.stderr));
+    assert!(output.stderr.is_empty(), "{words:?}");
+    String::from_utf8(output.stdout).unwrap()
+}
+
+// ---- figures
+
+#[test]
+fn the_published_example() {
+    let at = ["place", "sun", "2003-10-17T19:30:30Z"];
+    let text = answer(&[&at[..], &BOULDER].concat(), "");
+    assert!(text.contains("azimuth 194.34024073 degrees"), "{text}");
+    assert!(text.contains("elevation 39.87204605 degrees above the horizon, without refraction"), "{text}");
+    assert!(text.contains("UT1 minus UTC 0.0 s (assumed") && text.contains("delta-T 67.0 s (given)"), "{text}");
+
+    let shown = answer(&[&at[..], &BOULDER, &["--pressure", "820", "--temperature", "11"]].concat(), "");
+    assert!(shown.contains("azimuth 194.34024073 degrees"), "{shown}");
+    assert!(shown.contains("elevation 39.88837812 degrees above the horizon, with refraction"), "{shown}");
+
+    let zoned = answer(&[&["place", "sun", "2003-10-17T12:30:30-07:00"], &BOULDER[..]].concat(), "");
+    assert!(zoned.contains("(2003-10-17T19:30:30Z)") && zoned.contains("194.34024073"), "{zoned}");
+}
+
+#[test]
+fn a_table_says_its_day() {
+    for words in [
+        &["day", "2026-10-10"][..],
+        &["day", "2026-10-10", "--json"],
+        &["day", "2026-10-10", "--csv"],
+        &["picture", "2026-10-10"],
+    ] {
+        let text = answer(&[words, &DUNEDIN].concat(), "");
+        assert!(text.contains("2026-10-10"), "{words:?}");
+        assert!(text.contains("68.8"), "{words:?} says delta-T");
+    }
+    let text = answer(&[&["day", "2026-10-10"], &DUNEDIN[..]].concat(), "");
+    assert!(
+        text.contains("times in UTC+13:00") && text.contains("a forecast from a table of years, observed to about 2022"),
+        "{text}"
+    );
+    assert_eq!(text.lines().filter(|line| line.get(2..5) == Some(":00")).count(), 24);
+    let text = answer(&[&["day", "2026-10-10", "--every", "1"], &DUNEDIN[..]].concat(), "");
+    assert!(text.ends_with('\n') && text.lines().last().unwrap().starts_with("23:59"));
+}
+
+#[test]
+fn a_table_agrees_with_its_places() {
+    let rows = answer(&[&["day", "2026-10-10", "--csv", "--every", "720"], &DUNEDIN[..]].concat(), "");
+    let noon: Vec<&str> = rows.lines().nth(2).unwrap().split(',').collect();
+    assert_eq!(noon[0], "2026-10-10T12:00:00+13:00");
+    let delta_t = noon[7];
+    let sun =
+        answer(&["place", "sun", "2026-10-09T23:00Z", "--lat", "-45.5", "--lon", "170.5", "--delta-t", delta_t, "--csv"], "");
+    let sun: Vec<&str> = sun.lines().nth(1).unwrap().split(',').collect();
+    assert_eq!((noon[1], noon[2]), (sun[2], sun[3]));
+}
+
+#[test]
+fn a_track_is_answered_line_by_line() {
+    let start = ["batch", "moon", "--start", "2026-11-15T19:30:00Z", "--lat", "45.5N", "--lon", "5.2E", "--csv"];
+    let rows = answer(&start, "3600\n0\n0.5");
+    let keys: Vec<&str> = rows.lines().map(|row| row.split(',').next().unwrap()).collect();
+    assert_eq!(keys, ["offset_seconds", "3600", "0", "0.5"]);
+    let times = ["batch", "moon", "--lat", "45.5N", "--lon", "5.2E", "--csv"];
+    let at = answer(&times, "2026-11-15T20:30:00Z\n2026-11-15T20:30:00+01:00\n2026-11-15T19:30:00.5Z\n");
+    let figures =
+        |text: &str| -> Vec<String> { text.lines().skip(1).map(|row| row.split_once(',').unwrap().1.to_string()).collect() };
+    assert_eq!(figures(&rows), figures(&at));
+    let text = answer(&times[..6], "2003-10-17T19:30:30Z\n2050-10-17T19:30:30Z\n");
+    assert!(text.contains("delta-T 64.5 s to 74.8 s") && text.contains("observed to about 2022"), "{text}");
+    assert_eq!(answer(&times, "").lines().count(), 1);
+    assert!(answer(&times[..6], "").contains("azimuth in degrees"));
+}
+
+#[test]
+fn the_middle_says_its_unit() {
+    assert_eq!(answer(&["middle", "35990000000", "10000000"], ""), "0 in units of 1e-8 degree\n0.00000000 degrees\n");
+    assert_eq!(answer(&["middle", "10", "13"], ""), "11 in units of 1e-8 degree\n0.00000011 degrees\n");
+}
+
+// ---- forms
+
+#[test]
+fn forms_have_units_in_their_names() {
+    let json = answer(&[&["place", "sun", "2003-10-17T19:30:30Z", "--json"], &BOULDER[..]].concat(), "");
+    for member in [
+        "\"azimuth_degrees\": 194.34024073", "\"elevation_degrees\": 39.87204605", "\"delta_t_seconds\": 67.0",
+        "\"ut1_minus_utc_seconds\": 0.0",
+    ] {
+        assert!(json.contains(member), "{json}");
+    }
+    assert_eq!(json.matches('{').count(), json.matches('}').count());
+    let csv = answer(&[&["day", "2026-10-10", "--csv"], &DUNEDIN[..]].concat(), "");
+    let columns = |row: &str| row.split(',').count();
+    assert!(csv.starts_with(
+        "time,sun_azimuth_degrees,sun_elevation_degrees,moon_azimuth_degrees,moon_elevation_degrees,ut1_minus_utc_seconds,"
+    ));
+    assert!(csv.split_terminator("\r\n").all(|row| columns(row) == 9 && !row.contains(['\r', '\n'])), "{csv}");
+}
+
+#[test]
+fn no_locale_changes_a_byte() {
+    let commands = [
+        &["day", "2026-10-10"][..],
+        &["day", "2026-10-10", "--json"],
+        &["day", "2026-10-10", "--csv"],
+        &["picture", "2026-10-10"],
+    ];
+    for words in commands {
+        let in_locale =
+            |locale: &str| raddlehue(&[words, &DUNEDIN].concat()).env("LC_ALL", locale).env("LANG", locale).output().unwrap();
+        let (german, plain) = (in_locale("de_DE.UTF-8"), in_locale("C"));
+        assert!(plain.status.success() && !plain.stdout.is_empty());
+        assert_eq!(german, plain, "{words:?}");
+    }
+}
+
+#[test]
+fn help_and_version_are_answers() {
+    let help = answer(&["--help"], "");
+    let fits = |page: &str| page.lines().all(|line| line.len() <= 80);
+    assert!(fits(&help), "a page fits a terminal");
+    for command in ["day", "place", "batch", "middle", "picture"] {
+        assert!(help.contains(&format!("raddlehue {command} ")), "{command}");
+        let page = answer(&[command, "--help"], "");
+        assert!(page.starts_with(&format!("raddlehue {command} ")) && fits(&page), "{command}");
+        assert_eq!(answer(&[command, "2026-10-10", "-h"], ""), page);
+    }
+    assert!(help.contains("outside the proofs") && help.contains("forecast"));
+    assert_eq!(answer(&["--version"], "").split(' ').nth(1), Some(env!("CARGO_PKG_VERSION")));
+}
+
+#[test]
+fn a_picture_can_be_heard_and_read() {
+    let svg = answer(&[&["picture", "2026-10-10"], &DUNEDIN[..]].concat(), "");
+    for part in [
+        "<title id=\"raddlehue-title\">Sun and Moon on 2026-10-10",
+        "<desc id=\"raddlehue-desc\">",
+        "role=\"img\"",
+        "prefers-color-scheme: dark",
+        "viewBox=\"0 0 1000 ",
+    ] {
+        assert!(svg.contains(part), "{part}");
+    }
+    assert!(svg.contains("stroke-dasharray"), "the Moon's line is told apart without colour");
+    assert!(svg.contains("font: 36px") && svg.contains("font-size: 44px"), "text has at least 3.5 % of the width");
+    assert_eq!(svg.matches("font-size").count(), 1);
+    assert!(!svg.contains("NaN") && !svg.contains("inf"));
+}
+
+/// The lines of the paths: each begins with an M, and the samples under the dome, which have an h, are none.
+fn lines(svg: &str) -> Vec<Vec<(f64, f64)>> {
+    let paths = svg.lines().filter(|line| line.contains(" path\" d=\"") && !line.contains("h90"));
+    let point = |text: &str| text.split_once(' ').map(|(x, y)| (x.parse().unwrap(), y.parse().unwrap())).unwrap();
+    let figures = paths.map(|line| line.split('"').nth(3).unwrap());
+    figures.flat_map(|path| path.split('M').skip(1)).map(|line| line.split('L').map(point).collect()).collect()
+}
+
+#[test]
+fn no_path_jumps() {
+    let skies = [
+        ("2003-10-17", "39.742476", "-105.1786"), // the north
+        ("2026-11-15", "-45.5", "170.5"),         // the south
+        ("2026-05-28", "21.4225", "39.8262"),     // the Sun a tenth of a degree from the zenith
+        ("2026-03-20", "0", "0"),                 // the equator at an equinox
+        ("2026-06-21", "9.5", "-79.5"),           // the Sun goes through the north, where the sheet has its edge
+        ("2026-06-21", "69.6492", "18.9553"),     // a polar day
+        ("2026-12-21", "90", "0"),                // a polar night
+        ("2100-12-31", "-90", "180"),             // the last day
+    ];
+    for (date, latitude, longitude) in skies {
+        let svg = answer(&["picture", date, "--lat", latitude, "--lon", longitude], "");
+        assert!(!lines(&svg).is_empty(), "{date} {latitude} {longitude} has no path");
+        for pair in lines(&svg).iter().flat_map(|line| line.windows(2)) {
+            let (a, b) = (pair[0], pair[1]);
+            assert!((a.0 - b.0).hypot(a.1 - b.1) < 13.0, "{date} {latitude} {longitude}: from {a:?} to {b:?}");
+        }
+    }
+}
+
+// ---- streams
+
+#[cfg(target_os = "linux")]
+#[test]
+fn a_full_disk_is_an_error() {
+    for words in [&["day", "2026-10-10"][..], &["picture", "2026-10-10"]] {
+        let full = OpenOptions::new().write(true).open("/dev/full").unwrap();
+        let output = raddlehue(&[words, &DUNEDIN].concat()).stdout(full).output().unwrap();
+        assert_eq!(output.status.code(), Some(1));
+        assert!(String::from_utf8(output.stderr).unwrap().contains("cannot be written"));
+    }
+    let full = OpenOptions::new().write(true).open("/dev/full").unwrap();
+    assert_eq!(raddlehue(&["--help"]).stdout(full).output().unwrap().status.code(), Some(1));
+}
+
+#[test]
+fn a_reader_that_leaves_is_no_success() {
+    let words = [&["day", "2026-10-10", "--every", "1", "--json"], &DUNEDIN[..]].concat();
+    let mut child = raddlehue(&words).stdout(Stdio::piped()).stderr(Stdio::piped()).spawn().unwrap();
+    drop(child.stdout.take());
+    let output = child.wait_with_output().unwrap();
+    assert_eq!(output.status.code(), Some(1));
+    assert!(output.stderr.is_empty(), "it ends quietly");
+}
+
+#[cfg(target_os = "linux")]
+#[test]
+fn nobody_hears_and_the_status_is_the_same() {
+    let full = OpenOptions::new().write(true).open("/dev/full").unwrap();
+    assert_eq!(raddlehue(&["nonsense"]).stderr(full).status().unwrap().code(), Some(2));
+}

@@ -1,0 +1,25 @@
+//! What README.md shows is what the command prints.
+#![cfg(unix)]
+
+use std::path::Path;
+use std::process::Command;
+
+fn printed(line: &str) -> String {
+    let here = Path::new(env!("CARGO_BIN_EXE_raddlehue")).parent().unwrap().display().to_string();
+    let path = format!("{here}:{}", std::env::var("PATH").unwrap_or_default());
+    let output = Command::new("sh").arg("-c").arg(format!("{line} 2>&1")).env("PATH", path).output().unwrap();
+    String::from_utf8(output.stdout).unwrap().replace('\r', "").trim_end().to_string()
+}
+
+#[test]
+fn every_example_prints_what_is_shown() {
+    let page = include_str!("../README.md");
+    let examples: Vec<&str> = page.split("\n    $ ").skip(1).collect();
+    assert_eq!(examples.len(), 6);
+    for example in examples {
+        let (line, rest) = example.split_once('\n').unwrap();
+        let lines = rest.lines().take_while(|line| line.is_empty() || line.starts_with("    "));
+        let shown: Vec<&str> = lines.map(|line| line.strip_prefix("    ").unwrap_or(line)).collect();
+        assert_eq!(printed(line), shown.join("\n").trim_end(), "{line}");
+    }
+}

@@ -1,0 +1,235 @@
+//! Hostile words: none of them is answered, and each is named in a sentence.
+
+use std::io::Write;
+use std::process::{Command, Output, Stdio};
+
+const HERE: [&str; 4] = ["--lat", "45.5N", "--lon", "5.2E"];
+
+fn run(words: &[&str], input: &[u8]) -> Output {
+    let mut command = Command::new(env!("CARGO_BIN_EXE_raddlehue"));
+    let mut child = command.args(words).stdin(Stdio::piped()).stdout(Stdio::piped()).stderr(Stdio::piped()).spawn().unwrap();
+    // A command that refuses its words does not read its input.
+    let _ = child.stdin.take().unwrap().write_all(input);
+    child.wait_with_output().unwrap()
+}
+
+/// Not answered, with this status; the sentence on the standard error names the word.
+fn refused(words: &[&str], input: &str, status: i32, named: &str) {
+    let output = run(words, input.as_bytes());
+    let sentence = String::from_utf8(output.stderr).unwrap();
+    assert_eq!(output.status.code(), Some(status), "{words:?}: {sentence}");
+    assert!(output.stdout.is_empty(), "{words:?} has an answer");
+    assert!(
+        sentence.starts_with("raddlehue: ") && sentence.ends_with('\n') && sentence.lines().count() == 1,
+        "{words:?}: {sentence}"
+    );
+    assert!(sentence.contains(&format!("{named:?}")), "{words:?} is not named: {sentence}");
+}
+
+fn here<'a>(words: &[&'a str]) -> Vec<&'a str> {
+    [words, &HERE].concat()
+}
+
+// ---- dates and times
+
+#[test]
+fn dates() {
+    let words = [
+        "2026", "2026-8-9", "2026-08-9", "26-08-09", "20260809", "2026/08/09", "09.08.2026", "2026-W32-7", "2026-221",
+        "2026-08-09T00:00Z", "today", "", " ", "2026-08-09 ", "2026 08 09", "0x7ea-08-09", "inf", "nan", "２０２６-08-09",
+    ];
+    for word in words {
+        refused(&here(&["day", word]), "", 2, word);
+        refused(&here(&["picture", word]), "", 2, word);
+    }
+    for word in [
+        "2026-08-32", "2026-02-29", "2026-13-01", "2026-00-01", "2026-08-00", "1899-12-31", "2101-01-01", "0000-00-00",
+        "9999-12-31",
+    ] {
+        refused(&here(&["day", word]), "", 1, word);
+        refused(&here(&["picture", word]), "", 1, word);
+    }
+    // The words of the old script: a year, a month and a day that a shell would read as octal.
+    refused(&here(&["day", "2026", "010", "010"]), "", 2, "010");
+    refused(&["day", "2026", "010", "010", "5.2", "45.5", "0"], "", 2, "010");
+    refused(&here(&["day", "-"]), "", 2, "-");
+}
+
+#[test]
+fn times() {
+    let words = [
+        "2026-08-09", "2026-08-09T12:00", "2026-08-09T12:00:00", "2026-08-09 12:00Z", "2026-08-09T12Z", "2026-08-09T12:00:00,5Z",
+        "2026-08-09T12:00:00.55Z", "2026-08-09T12:00:00.0000Z", "2026-08-09T12:00+1", "2026-08-09T12:00+0100",
+        "2026-08-09T12:00CET", "2026-8-9T12:00Z", "now", "", "1e9", "inf", "nan", "2026-08-09t12:00z", "2026-08-09T1:00Z",
+        "2026-08-09T12:00+15:00", "2026-08-09T12:00-00:00",
+    ];
+    for word in words {
+        refused(&here(&["place", "sun", word]), "", 2, word);
+        refused(&here(&["batch", "sun", "--start", word]), "0\n", 2, word);
+    }
+    for word in [
+        "2026-08-32T12:00Z", "2026-08-09T24:00Z", "2026-08-09T12:60Z", "2016-12-31T23:59:60Z", "2101-01-01T00:00Z",
+        "1900-01-01T00:00+01:00",
+    ] {
+        refused(&here(&["place", "moon", word]), "", 1, word);
+        refused(&here(&["batch", "moon", "--start", word]), "0\n", 1, word);
+    }
+}
+
+#[test]
+fn zones_and_steps() {
+    for word in ["13", "+13", "+1300", "UTC", "NZDT", "east", "", "+24:00", "+13:60", "-00:00", "z"] {
+        refused(&here(&["day", "2026-08-09", "--zone", word]), "", 2, word);
+        refused(&here(&["picture", "2026-08-09", "--zone", word]), "", 2, word);
+    }
+    for word in ["0", "-1", "1441", "0.5", "1e1", "0x10", "ten", "", "inf", "010", "99999999999999999999"] {
+        refused(&here(&["day", "2026-08-09", "--every", word]), "", 2, word);
+    }
+}
+
+// ---- numbers
+
+#[test]
+fn degrees() {
+    let words = [
+        "east", "north", "45.5N 5.2E", "0,5", "7°30", "7°30'", "0x10", "1e1", "inf", "-inf", "infinity", "nan", "NaN", "", " ",
+        " 5", "5 ", "+5", "5.", ".5", "05", "010", "5..5", "5.5.5", "N", "5n", "5°N", "-5N", "+5N", "-5S", "5 N", "5NN",
+        "5.12345678", "5.12345678N", "12345678901234567890", "five", "5d", "5_0", "٥",
+    ];
+    for word in words {
+        refused(&["day", "2026-08-09", "--lat", word, "--lon", "5.2"], "", 2, word);
+        refused(&["place", "sun", "2026-08-09T12:00Z", "--lat", "5.2", "--lon", word], "", 2, word);
+    }
+    for word in ["5E", "5.2W"] {
+        refused(&["day", "2026-08-09", "--lat", word, "--lon", "5.2"], "", 2, word);
+    }
+    for word in ["5N", "5.2S"] {
+        refused(&["day", "2026-08-09", "--lat", "5.2", "--lon", word], "", 2, word);
+    }
+    for word in ["91", "-90.0000001", "90.0000001N", "99999999999", "91S"] {
+        refused(&["day", "2026-08-09", "--lat", word, "--lon", "5.2"], "", 1, word);
+        refused(&["picture", "2026-08-09", "--lat", word, "--lon", "5.2"], "", 1, word);
+    }
+    for word in ["181", "-180.0000001", "360E"] {
+        refused(&["day", "2026-08-09", "--lat", "5.2", "--lon", word], "", 1, word);
+        refused(&["batch", "sun", "--lat", "5.2", "--lon", word], "2026-08-09T12:00Z\n", 1, word);
+    }
+}
+
+#[test]
+fn other_numbers() {
+    for flag in ["--height", "--ut1", "--delta-t"] {
+        for word in ["sixty", "", "6,9", "0x10", "1e1", "inf", "nan", "+5", "1.25", "5 ", "010"] {
+            refused(&here(&["day", "2026-08-09", flag, word]), "", 2, word);
+        }
+    }
+    for (flag, word) in [
+        ("--height", "9001"),
+        ("--height", "-501"),
+        ("--ut1", "1"),
+        ("--ut1", "-1.0"),
+        ("--delta-t", "8000.1"),
+        ("--delta-t", "-8000.1"),
+    ] {
+        refused(&here(&["day", "2026-08-09", flag, word]), "", 1, word);
+    }
+    let at = ["place", "sun", "2026-08-09T12:00Z"];
+    for word in ["thin", "", "1e3", "inf", "nan", "1013,2", "0.1234567"] {
+        refused(&here(&[&at[..], &["--pressure", word, "--temperature", "10"]].concat()), "", 2, word);
+        refused(&here(&[&at[..], &["--pressure", "1010", "--temperature", word]].concat()), "", 2, word);
+    }
+    refused(&here(&[&at[..], &["--pressure", "1201", "--temperature", "10"]].concat()), "", 1, "1201");
+    refused(&here(&[&at[..], &["--pressure", "-0.1", "--temperature", "10"]].concat()), "", 1, "-0.1");
+    refused(&here(&[&at[..], &["--pressure", "1010", "--temperature", "80.5"]].concat()), "", 1, "80.5");
+    refused(&here(&[&at[..], &["--pressure", "1010"]].concat()), "", 2, "--temperature");
+    refused(&here(&[&at[..], &["--temperature", "10"]].concat()), "", 2, "--pressure");
+}
+
+#[test]
+fn azimuths() {
+    for word in ["", "5.5", "north", "1e10", "0x10", "inf", "nan", "010", "9999999999999999999", "359.9", "1 2"] {
+        refused(&["middle", word, "0"], "", 2, word);
+        refused(&["middle", "0", word], "", 2, word);
+    }
+    refused(&["middle", "36000000000", "0"], "", 1, "36000000000");
+    refused(&["middle", "0", "-1"], "", 1, "-1");
+    refused(&["middle", "0", "18000000000"], "", 1, "18000000000");
+    refused(&["middle", "0", "1", "2"], "", 2, "2");
+}
+
+// ---- flags and commands
+
+#[test]
+fn flags() {
+    for word in ["--frob", "--latitude", "--LAT", "-x", "-l", "--", "---", "--lat=5"] {
+        refused(&here(&["day", "2026-08-09", word]), "", 2, word);
+    }
+    for flag in ["--lat", "--lon", "--height", "--zone", "--every", "--ut1", "--delta-t"] {
+        refused(&["day", "2026-08-09", flag], "", 2, flag);
+        refused(&["day", "2026-08-09", flag, "--json"], "", 2, flag);
+        refused(&["day", "2026-08-09", flag, "1", flag, "1"], "", 2, flag);
+    }
+    refused(&here(&["day", "2026-08-09", "--json", "--json"]), "", 2, "--json");
+    refused(&["day", "2026-08-09", "--lon", "5"], "", 2, "--lat");
+    refused(&["day", "2026-08-09", "--lat", "5"], "", 2, "--lon");
+    refused(&here(&["picture", "2026-08-09", "--json"]), "", 2, "--json");
+    refused(&["middle", "0", "1", "--lat", "5"], "", 2, "--lat");
+}
+
+#[test]
+fn commands() {
+    for word in ["days", "Day", "", "-v", "--", "help", "2026-08-09", "--verbose"] {
+        refused(&[word], "", 2, word);
+    }
+    refused(&["--version", "x"], "", 2, "x");
+    for word in ["Sun", "mars", "", "sunmoon", "sun moon"] {
+        refused(&here(&["place", word, "2026-08-09T12:00Z"]), "", 2, word);
+        refused(&here(&["batch", word]), "", 2, word);
+    }
+    for words in [&[][..], &["day"], &["place"], &["place", "sun"], &["batch"], &["middle"], &["middle", "0"], &["picture"]] {
+        let output = run(words, b"");
+        assert_eq!((output.status.code(), output.stdout.len()), (Some(2), 0), "{words:?}");
+        assert!(String::from_utf8(output.stderr).unwrap().contains("missing"), "{words:?}");
+    }
+    let output = run(&here(&["day", "2026-08-09", "--json", "--csv"]), b"");
+    assert_eq!((output.status.code(), output.stdout.len()), (Some(2), 0));
+}
+
+#[cfg(unix)]
+#[test]
+fn words_that_are_no_text() {
+    use std::ffi::OsStr;
+    use std::os::unix::ffi::OsStrExt;
+    let output = Command::new(env!("CARGO_BIN_EXE_raddlehue")).arg("day").arg(OsStr::from_bytes(b"2026\xff")).output().unwrap();
+    assert_eq!((output.status.code(), output.stdout.len()), (Some(2), 0));
+}
+
+// ---- lines of a track
+
+#[test]
+fn lines() {
+    let start = here(&["batch", "moon", "--start", "2100-12-31T23:59:59Z"]);
+    let times = here(&["batch", "moon"]);
+    for line in [
+        "x", "", " ", "0 ", " 0", "-1", "+1", "0.55", "1e1", "0,5", "0x1", "inf", "nan", "010", "0\r", "429496729.6",
+        "2026-08-09T12:00Z",
+    ] {
+        refused(&start, &format!("0\n0.5\n{line}\n0\n"), 1, line);
+    }
+    refused(&start, "0\n1\n", 1, "1");
+    for line in [
+        "0", "", "2026-08-09", "2026-08-09T12:00", "2026-08-32T12:00Z", "2101-01-01T00:00Z", "2026-08-09T12:00Z\r",
+        "2026-08-09T12:00:00.25Z",
+    ] {
+        refused(&times, &format!("2026-08-09T12:00Z\n2026-08-09T12:00Z\n{line}\n"), 1, line);
+    }
+    let output = run(&start, b"0\n0.9\n1\nx");
+    assert!(
+        String::from_utf8(output.stderr).unwrap().contains("line 4"),
+        "a line that cannot be read is judged before the library is asked"
+    );
+    let output = run(&start, b"0\n0.9\n1\n2");
+    assert!(String::from_utf8(output.stderr).unwrap().contains("line 3, \"1\": refused 13"));
+    let output = run(&times, b"2026-08-09T12:00Z\n\xff\n");
+    assert_eq!((output.status.code(), output.stdout.len()), (Some(1), 0));
+}
