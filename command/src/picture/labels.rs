@@ -80,7 +80,7 @@ impl Labels {
         (worth > -NEVER && self.room(best) >= LEAST).then(|| self.place(path, mark, text))
     }
 
-    // A place further from its mark has to be much clearer to be better.
+    // A place further from its mark has to be much clearer to be better, and of two that are equal the upper one is.
     fn best(&self, path: usize, mark: Spot, text: &str) -> (f64, Box) {
         let half_width = Box::of(mark, text).half_width;
         let mut best = (f64::NEG_INFINITY, Box::of(mark, text));
@@ -88,7 +88,7 @@ impl Labels {
             let (sideways, upward) = (std::f64::consts::TAU * f64::from(part) / 16.0).sin_cos();
             let middle = (mark.0 + (half_width + away) * sideways, mark.1 - (HALF_HEIGHT + away) * upward);
             let lost = if self.is_beyond_other(path, mark, middle) { 2.0 * NEVER } else { 0.0 };
-            let worth = self.room(Box::of(middle, text)) - 0.5 * away - lost;
+            let worth = self.room(Box::of(middle, text)) - 0.5 * away - lost + 0.1 * upward;
             if worth > best.0 {
                 best = (worth, Box::of(middle, text));
             }

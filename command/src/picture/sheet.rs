@@ -147,12 +147,9 @@ fn names(tracks: &[Track; 2]) -> String {
     let mut labels = Labels::new(frame, [spots(&tracks[0]), spots(&tracks[1])]);
     elevation_labels().iter().for_each(|(middle, words)| labels.reserve(*middle, words));
     let mut svg = String::new();
-    for (path, track) in tracks.iter().enumerate() {
-        let dots = track.lines.iter().flatten().filter(|dot| dot.up >= 0.0);
-        if let Some(&top) = dots.max_by(|a, b| a.up.total_cmp(&b.up)) {
-            let (name, class) = (body_name(track.body), class_of(track.body));
-            svg += &text(&format!("middle on-sky name {class}-name"), labels.place(path, spot(top), name), name);
-        }
+    for (path, track, top) in highest_first(tracks) {
+        let (name, class) = (body_name(track.body), class_of(track.body));
+        svg += &text(&format!("middle on-sky name {class}-name"), labels.place(path, spot(top), name), name);
     }
     for (path, track) in tracks.iter().enumerate() {
         let class = format!("middle on-sky {}-name", class_of(track.body));
@@ -162,6 +159,17 @@ fn names(tracks: &[Track; 2]) -> String {
         }
     }
     svg
+}
+
+// So that of two paths that lie together the upper one has its name above.
+fn highest_first(tracks: &[Track; 2]) -> Vec<(usize, &Track, Dot)> {
+    let top = |track: &Track| {
+        let seen = track.lines.iter().flatten().filter(|dot| dot.up >= 0.0);
+        seen.copied().max_by(|a, b| a.up.total_cmp(&b.up))
+    };
+    let mut tops: Vec<_> = tracks.iter().enumerate().filter_map(|(path, track)| Some((path, track, top(track)?))).collect();
+    tops.sort_by(|(.., a), (.., b)| b.up.total_cmp(&a.up));
+    tops
 }
 
 // ---- words under the dome
