@@ -1,139 +1,170 @@
-// The exports as the archive has them (crates/capi/src); include/raddlehue.h says what each means.
+// The exports as the archive has them (crates/capi/src), and each of them as a call that shows what was written; include/raddlehue.h says what each means.
+//
+// Memory that is lent for an answer is poisoned before the call, with poison on both sides of it: an answer comes back as the refusal and what the memory holds
+// after, which is POISON where a refused call wrote nothing. What writes beside its answer ends the test.
 #![allow(dead_code)]
 
-#[repr(C)]
-#[derive(Clone, Copy, Debug, PartialEq)]
-pub struct CalendarDay {
-    pub refusal: u8,
-    pub days: i64,
+use std::ptr;
+
+extern "C" {
+    pub fn raddlehue_place(
+        start: &[i64; 9],
+        body: u32,
+        point: &[i64; 3],
+        air: u32,
+        pressure: f64,
+        temperature: f64,
+        place: *mut [i64; 2],
+    ) -> u32;
+    pub fn raddlehue_shown_place(
+        start: &[i64; 9],
+        body: u32,
+        point: &[i64; 3],
+        air: u32,
+        pressure: f64,
+        temperature: f64,
+        shown: *mut [f64; 3],
+    ) -> u32;
+    pub fn raddlehue_batch(
+        start: &[i64; 9],
+        body: u32,
+        point: &[i64; 3],
+        offsets: *const u32,
+        offsets_length: u64,
+        azimuths: *mut i64,
+        azimuths_length: u64,
+        elevations: *mut i64,
+        elevations_length: u64,
+        batch: *mut [u64; 2],
+    ) -> u32;
+    pub fn raddlehue_middle(a: i64, b: i64, azimuth: *mut i64) -> u32;
+    pub fn raddlehue_refraction(elevation: i64, air: u32, pressure: f64, temperature: f64, degrees: *mut f64) -> u32;
+    pub fn raddlehue_day_count(year: i64, month: i64, day: i64, days: *mut i64) -> u32;
+    pub fn raddlehue_instant(start: &[i64; 9], instant: *mut [i64; 2]) -> u32;
+    pub fn raddlehue_moon_sums(tt: i64, sums: *mut [i64; 3]) -> u32;
+    pub fn raddlehue_sun_sums(tt: i64, sums: *mut [i64; 3]) -> u32;
+    pub fn raddlehue_nutation(tt: i64, nutation: *mut [i64; 3]) -> u32;
+    pub fn raddlehue_mean_sidereal(ut: i64, sidereal: *mut i64) -> u32;
+    pub fn raddlehue_sine(angle: i64) -> i64;
+    pub fn raddlehue_cosine(angle: i64) -> i64;
+    pub fn raddlehue_arctangent(y: i64, x: i64) -> i64;
+    pub fn raddlehue_root(square: u64) -> u64;
 }
 
-#[repr(C)]
-#[derive(Clone, Copy)]
-pub struct MoonSums {
-    pub within: u8,
-    pub longitude: u64,
-    pub latitude: i64,
-    pub metres: i64,
-}
+pub const SUN: u32 = 0;
+pub const MOON: u32 = 1;
 
-#[repr(C)]
-#[derive(Clone, Copy)]
-pub struct SolarSums {
-    pub within: u8,
-    pub longitude: i64,
-    pub latitude: i64,
-    pub radius: i64,
-}
-
-#[repr(C)]
-#[derive(Clone, Copy)]
-pub struct NutationSums {
-    pub within: u8,
-    pub longitude: i64,
-    pub obliquity: i64,
-    pub true_obliquity: i64,
-}
-
-#[repr(C)]
-#[derive(Clone, Copy)]
-pub struct SiderealTime {
-    pub within: u8,
-    pub mean: u64,
-}
-
-#[repr(C)]
 #[derive(Clone, Copy, Debug)]
-pub struct Start {
-    pub year: i64,
-    pub month: i64,
-    pub day: i64,
-    pub hour: i64,
-    pub minute: i64,
-    pub second: i64,
-    pub fraction: i64,
-    pub ut1: i64,
-    pub delta: i64,
-}
-
-#[repr(C)]
-#[derive(Clone, Copy, Debug)]
-pub struct Point {
-    pub longitude: i64,
-    pub latitude: i64,
-    pub height: i64,
-}
-
-#[repr(C)]
-#[derive(Clone, Copy, Debug)]
-pub struct GivenAir {
+pub struct Air {
     pub kind: u32,
     pub pressure: f64,
     pub temperature: f64,
 }
 
-#[repr(C)]
-#[derive(Clone, Copy, Debug, PartialEq)]
-pub struct PlaceNumbers {
-    pub refusal: u8,
-    pub azimuth: i64,
-    pub elevation: i64,
-}
+pub const NO_AIR: Air = Air { kind: 0, pressure: 0.0, temperature: 0.0 };
+
+pub const POISON: i64 = 0x5a5a_5a5a_5a5a_5a5a;
+
+// A refusal, and what the lent memory holds after the call.
+pub type Answer<T> = (u32, T);
 
 #[repr(C)]
-#[derive(Clone, Copy, Debug)]
-pub struct ShownNumbers {
-    pub refusal: u8,
-    pub azimuth: f64,
-    pub elevation: f64,
-    pub refraction: f64,
+struct Lent<T> {
+    before: [i64; 4],
+    answer: T,
+    after: [i64; 4],
 }
 
-#[repr(C)]
-#[derive(Clone, Copy, Debug, PartialEq)]
-pub struct BatchNumbers {
-    pub refusal: u8,
-    pub index: usize,
-    pub count: usize,
+// The call gets a pointer into the whole of it, so that a write beside the answer is seen and not optimised away.
+fn lent<T: Copy>(poison: T, call: impl FnOnce(*mut T) -> u32) -> Answer<T> {
+    let mut lent = Lent { before: [POISON; 4], answer: poison, after: [POISON; 4] };
+    let whole: *mut Lent<T> = &mut lent;
+    let refusal = call(unsafe { ptr::addr_of_mut!((*whole).answer) });
+    assert_eq!([lent.before, lent.after], [[POISON; 4]; 2], "written beside the answer");
+    (refusal, lent.answer)
 }
 
-#[repr(C)]
-#[derive(Clone, Copy, Debug, PartialEq)]
-pub struct MiddleNumbers {
-    pub refusal: u8,
-    pub azimuth: i64,
+fn poisoned<const N: usize>(call: impl FnOnce(*mut [i64; N]) -> u32) -> Answer<[i64; N]> {
+    lent([POISON; N], call)
 }
 
-#[repr(C)]
-#[derive(Clone, Copy, Debug)]
-pub struct RefractionNumbers {
-    pub refusal: u8,
-    pub refraction: f64,
+// The start and the point of a request's twelve numbers.
+pub fn start_of(numbers: &[i64; 12]) -> &[i64; 9] {
+    numbers.first_chunk().unwrap()
 }
 
-extern "C" {
-    pub fn raddlehue_day_count(year: i64, month: i64, day: i64) -> CalendarDay;
-    pub fn raddlehue_sine(x: i64) -> i64;
-    pub fn raddlehue_cosine(x: i64) -> i64;
-    pub fn raddlehue_arctangent(y: i64, x: i64) -> u64;
-    pub fn raddlehue_root(x: u64) -> u64;
-    pub fn raddlehue_moon_sums(tt: i64) -> MoonSums;
-    pub fn raddlehue_sun_sums(tt: i64) -> SolarSums;
-    pub fn raddlehue_nutation(tt: i64) -> NutationSums;
-    pub fn raddlehue_mean_sidereal(ut: i64) -> SiderealTime;
-    pub fn raddlehue_place(start: Start, body: u32, point: Point, air: GivenAir) -> PlaceNumbers;
-    pub fn raddlehue_shown_place(start: Start, body: u32, point: Point, air: GivenAir) -> ShownNumbers;
-    pub fn raddlehue_batch(
-        start: Start,
-        body: u32,
-        point: Point,
-        offsets: *const u32,
-        offsets_len: usize,
-        azimuths: *mut i64,
-        azimuths_len: usize,
-        elevations: *mut i64,
-        elevations_len: usize,
-    ) -> BatchNumbers;
-    pub fn raddlehue_middle(a: i64, b: i64) -> MiddleNumbers;
-    pub fn raddlehue_refraction(elevation: i64, air: GivenAir) -> RefractionNumbers;
+pub fn point_of(numbers: &[i64; 12]) -> &[i64; 3] {
+    numbers.last_chunk().unwrap()
+}
+
+pub fn place(numbers: &[i64; 12], body: u32, air: Air) -> Answer<[i64; 2]> {
+    let (start, point) = (start_of(numbers), point_of(numbers));
+    poisoned(|at| unsafe { raddlehue_place(start, body, point, air.kind, air.pressure, air.temperature, at) })
+}
+
+// In bits, as all doubles here: two that are equal need not be the same.
+pub fn shown_place(numbers: &[i64; 12], body: u32, air: Air) -> Answer<[i64; 3]> {
+    let (start, point) = (start_of(numbers), point_of(numbers));
+    poisoned(|at| unsafe { raddlehue_shown_place(start, body, point, air.kind, air.pressure, air.temperature, at.cast()) })
+}
+
+// Index and count. An empty list has a null pointer.
+pub fn batch(numbers: &[i64; 12], body: u32, offsets: &[u32], azimuths: &mut [i64], elevations: &mut [i64]) -> Answer<[i64; 2]> {
+    fn first(list: &mut [i64]) -> *mut i64 {
+        if list.is_empty() {
+            ptr::null_mut()
+        } else {
+            list.as_mut_ptr()
+        }
+    }
+    let (start, point) = (start_of(numbers), point_of(numbers));
+    let first_offset = if offsets.is_empty() { ptr::null() } else { offsets.as_ptr() };
+    let lengths = [offsets.len(), azimuths.len(), elevations.len()].map(|length| length as u64);
+    poisoned(|at| unsafe {
+        raddlehue_batch(
+            start,
+            body,
+            point,
+            first_offset,
+            lengths[0],
+            first(azimuths),
+            lengths[1],
+            first(elevations),
+            lengths[2],
+            at.cast(),
+        )
+    })
+}
+
+pub fn middle(a: i64, b: i64) -> Answer<i64> {
+    lent(POISON, |at| unsafe { raddlehue_middle(a, b, at) })
+}
+
+pub fn refraction(elevation: i64, air: Air) -> Answer<i64> {
+    lent(POISON, |at| unsafe { raddlehue_refraction(elevation, air.kind, air.pressure, air.temperature, at.cast()) })
+}
+
+pub fn day_count(year: i64, month: i64, day: i64) -> Answer<i64> {
+    lent(POISON, |at| unsafe { raddlehue_day_count(year, month, day, at) })
+}
+
+// UT and TT.
+pub fn instant(start: &[i64; 9]) -> Answer<[i64; 2]> {
+    poisoned(|at| unsafe { raddlehue_instant(start, at) })
+}
+
+pub fn moon_sums(tt: i64) -> Answer<[i64; 3]> {
+    poisoned(|at| unsafe { raddlehue_moon_sums(tt, at) })
+}
+
+pub fn sun_sums(tt: i64) -> Answer<[i64; 3]> {
+    poisoned(|at| unsafe { raddlehue_sun_sums(tt, at) })
+}
+
+pub fn nutation(tt: i64) -> Answer<[i64; 3]> {
+    poisoned(|at| unsafe { raddlehue_nutation(tt, at) })
+}
+
+pub fn mean_sidereal(ut: i64) -> Answer<i64> {
+    lent(POISON, |at| unsafe { raddlehue_mean_sidereal(ut, at) })
 }

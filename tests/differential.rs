@@ -2,11 +2,12 @@
 //
 //     differential COUNT [SEED]
 //
-// COUNT requests for a place, each asked for plainly and as shown, and with them batches, middles, refractions, the leaves and the sums at an instant.
-// The first mismatch ends the run with the request that gave it.
+// COUNT requests for a place, each asked for plainly and as shown, and with them instants, batches, middles, refractions, the leaves and the sums at an instant.
+// A refused call writes nothing: its memory stays poisoned. The first mismatch ends the run with the request that gave it, and so does a refusal that no request
+// of the run was given (in a run of some thousands all are).
 use std::env;
+use std::fmt::Debug;
 use std::process::exit;
-use std::ptr::{null, null_mut};
 
 use raddlehue_reference as reference;
 
@@ -15,6 +16,9 @@ use archive::*;
 
 const FULL_TURN: i64 = 36_000_000_000;
 const QUARTER_TURN: i64 = 9_000_000_000;
+
+// The furthest instant that the sums answer.
+const FURTHEST: i64 = 31_904_733_600;
 
 // SplitMix64: the same requests from the same seed on every machine.
 struct Random(u64);
@@ -82,7 +86,7 @@ const FIELDS: [(i64, i64); 12] = [
 struct Request {
     numbers: [i64; 12],
     body: u32,
-    air: GivenAir,
+    air: Air,
 }
 
 fn double(random: &mut Random, lo: f64, hi: f64) -> f64 {
@@ -119,24 +123,25 @@ fn request(random: &mut Random) -> Request {
         let at = random.below(12) as usize;
         numbers[at] = random.outside(FIELDS[at].0, FIELDS[at].1);
     }
-    let air = GivenAir {
-        kind: random.below(3) as u32,
+    let air = Air {
+        kind: code(random, 3),
         pressure: double(random, 0.0, 1200.0),
         temperature: double(random, -80.0, 80.0),
     };
-    Request { numbers, body: random.below(2) as u32, air }
+    Request { numbers, body: code(random, 2), air }
+}
+
+// A code below so many, and now and then one that is not.
+fn code(random: &mut Random, known: u32) -> u32 {
+    match random.below(64) {
+        0 => known,
+        1 => u32::MAX,
+        2 => (random.next() as u32).max(known),
+        _ => random.below(u64::from(known)) as u32,
+    }
 }
 
 impl Request {
-    fn start(&self) -> Start {
-        let [year, month, day, hour, minute, second, fraction, ut1, delta, ..] = self.numbers;
-        Start { year, month, day, hour, minute, second, fraction, ut1, delta }
-    }
-
-    fn point(&self) -> Point {
-        Point { longitude: self.numbers[9], latitude: self.numbers[10], height: self.numbers[11] }
-    }
-
     fn reference_start(&self) -> reference::Start {
         let [year, month, day, hour, minute, second, tenth, ut1, delta_t, ..] = self.numbers;
         reference::Start { year, month, day, hour, minute, second, tenth, ut1, delta_t }
@@ -155,7 +160,7 @@ impl Request {
     }
 }
 
-fn reference_air(air: GivenAir) -> reference::Air {
+fn reference_air(air: Air) -> reference::Air {
     match air.kind {
         0 => reference::Air::None,
         1 => reference::Air::Standard,
@@ -163,47 +168,68 @@ fn reference_air(air: GivenAir) -> reference::Air {
     }
 }
 
-fn fail(what: &str, input: String, ours: String, expected: String) -> ! {
-    eprintln!("differential: {what}\n  of {input}\n  archive   {ours}\n  reference {expected}");
-    exit(1)
+// The codes are C's, which the reference has none of: the body is judged first, then the air, then the request.
+fn body_refusal(body: u32) -> Result<(), u32> {
+    if body <= MOON { Ok(()) } else { Err(101) }
 }
 
-fn place(asked: &Request) {
-    let ours = unsafe { raddlehue_place(asked.start(), asked.body, asked.point(), asked.air) };
-    let air = reference_air(asked.air);
-    let expected = match reference::place(asked.reference_start(), asked.reference_body(), asked.reference_point(), air) {
-        Ok(place) => PlaceNumbers { refusal: 0, azimuth: place.azimuth, elevation: place.elevation },
-        Err(refusal) => PlaceNumbers { refusal, azimuth: 0, elevation: 0 },
-    };
+fn kind_refusal(kind: u32) -> Result<(), u32> {
+    if kind <= 2 { Ok(()) } else { Err(102) }
+}
+
+// What the archive has to answer: the values where there are some, the refusal and untouched memory where not.
+fn answer<const N: usize>(found: Result<[i64; N], u32>) -> Answer<[i64; N]> {
+    match found {
+        Ok(values) => (0, values),
+        Err(refusal) => (refusal, [POISON; N]),
+    }
+}
+
+fn answer_one(found: Result<i64, u32>) -> Answer<i64> {
+    match found {
+        Ok(value) => (0, value),
+        Err(refusal) => (refusal, POISON),
+    }
+}
+
+// How often each refusal was given, by the kind of the call.
+struct Seen {
+    places: [u64; 256],
+    instants: [u64; 256],
+    batches: [u64; 256],
+    middles: [u64; 256],
+    refractions: [u64; 256],
+    sums: [u64; 256],
+}
+
+fn same<T: PartialEq + Debug>(what: &str, input: impl Debug, ours: Answer<T>, expected: Answer<T>, seen: &mut [u64; 256]) {
     if ours != expected {
-        fail("place", format!("{asked:?}"), format!("{ours:?}"), format!("{expected:?}"));
+        eprintln!("differential: {what}\n  of {input:?}\n  archive   {ours:?}\n  reference {expected:?}");
+        exit(1)
     }
+    seen[ours.0 as usize] += 1;
 }
 
-fn shown(asked: &Request) {
-    let ours = unsafe { raddlehue_shown_place(asked.start(), asked.body, asked.point(), asked.air) };
+fn place_of(asked: &Request, seen: &mut Seen) {
+    let (start, body, point) = (asked.reference_start(), asked.reference_body(), asked.reference_point());
     let air = reference_air(asked.air);
-    let (refusal, doubles) =
-        match reference::shown_place(asked.reference_start(), asked.reference_body(), asked.reference_point(), air) {
-            Ok(shown) => (0, [shown.azimuth, shown.elevation, shown.refraction]),
-            Err(refusal) => (refusal, [0.0; 3]),
-        };
-    let bits = [ours.azimuth.to_bits(), ours.elevation.to_bits(), ours.refraction.to_bits()];
-    let expected = doubles.map(f64::to_bits);
-    if ours.refusal != refusal || bits != expected {
-        fail("shown place", format!("{asked:?}"), format!("{} {bits:x?}", ours.refusal), format!("{refusal} {expected:x?}"));
-    }
+    let known = body_refusal(asked.body).and_then(|()| kind_refusal(asked.air.kind));
+    let plain = known.and_then(|()| reference::place(start, body, point, air).map_err(u32::from));
+    let expected = answer(plain.map(|place| [place.azimuth, place.elevation]));
+    same("place", asked, place(&asked.numbers, asked.body, asked.air), expected, &mut seen.places);
+    let shown = known.and_then(|()| reference::shown_place(start, body, point, air).map_err(u32::from));
+    let doubles = shown.map(|shown| [shown.azimuth, shown.elevation, shown.refraction].map(|x| x.to_bits() as i64));
+    same("shown place", asked, shown_place(&asked.numbers, asked.body, asked.air), answer(doubles), &mut seen.places);
 }
 
-fn pointer(list: &mut [i64]) -> *mut i64 {
-    if list.is_empty() {
-        null_mut()
-    } else {
-        list.as_mut_ptr()
-    }
+// UT is UTC with UT1 minus UTC added, TT is UT with delta-T added, both from noon.
+fn instant_of(asked: &Request, seen: &mut Seen) {
+    let found = reference::instant::Instant::new(&asked.reference_start()).map_err(u32::from);
+    let expected = answer(found.map(|found| [found.ut, found.tt]));
+    same("instant", asked, instant(start_of(&asked.numbers)), expected, &mut seen.instants);
 }
 
-fn batch(random: &mut Random, asked: &mut Request) {
+fn batch_of(random: &mut Random, asked: &mut Request, seen: &mut Seen) {
     let late = random.one_in(4);
     if late {
         asked.numbers[..3].copy_from_slice(&[2100, 12, 31]);
@@ -217,25 +243,23 @@ fn batch(random: &mut Random, asked: &mut Request) {
         lengths[0] = 0;
     }
     let fresh = lengths.map(|length| (0..length).map(|_| random.next() as i64).collect::<Vec<i64>>());
-    let (mut ours, mut expected) = (fresh.clone(), fresh);
-    let first = if count == 0 { null() } else { offsets.as_ptr() };
-    let answer = unsafe {
-        let [azimuths, elevations] = &mut ours;
-        raddlehue_batch(
-            asked.start(), asked.body, asked.point(), first, count,
-            pointer(azimuths), azimuths.len(), pointer(elevations), elevations.len(),
-        )
+    let (mut ours, mut theirs) = (fresh.clone(), fresh);
+    let [azimuths, elevations] = &mut ours;
+    let found = batch(&asked.numbers, asked.body, &offsets, azimuths, elevations);
+    let [azimuths, elevations] = &mut theirs;
+    let (start, body, point) = (asked.reference_start(), asked.reference_body(), asked.reference_point());
+    let expected = match body_refusal(asked.body) {
+        Err(refusal) => answer(Err(refusal)),
+        Ok(()) => match reference::batch(start, body, point, &offsets, azimuths, elevations) {
+            Ok(count) => (0, [0, count as i64]),
+            Err((13, index)) => (13, [index as i64, 0]),
+            Err((refusal, _)) => answer(Err(u32::from(refusal))),
+        },
     };
-    let [azimuths, elevations] = &mut expected;
-    let (start, point) = (asked.reference_start(), asked.reference_point());
-    let wanted = match reference::batch(start, asked.reference_body(), point, &offsets, azimuths, elevations) {
-        Ok(count) => BatchNumbers { refusal: 0, index: 0, count },
-        Err((refusal, index)) => BatchNumbers { refusal, index, count: 0 },
-    };
-    if answer != wanted || ours != expected {
-        let input = format!("{asked:?} with {offsets:?} and lengths {lengths:?}");
-        fail("batch", input, format!("{answer:?} {ours:?}"), format!("{wanted:?} {expected:?}"));
-    }
+    let input = (asked, &offsets, lengths);
+    same("batch", &input, found, expected, &mut seen.batches);
+    // the buffers, each as it is left
+    same("buffers of a batch", &input, (found.0, ours), (found.0, theirs), &mut [0; 256]);
 }
 
 fn azimuth(random: &mut Random) -> i64 {
@@ -247,7 +271,7 @@ fn azimuth(random: &mut Random) -> i64 {
     }
 }
 
-fn middle(random: &mut Random) {
+fn middle_of(random: &mut Random, seen: &mut Seen) {
     let a = azimuth(random);
     let b = match random.below(6) {
         0 => a.wrapping_add(FULL_TURN / 2),
@@ -255,27 +279,19 @@ fn middle(random: &mut Random) {
         2 => a.wrapping_add(random.between(-3, 3)),
         _ => azimuth(random),
     };
-    let ours = unsafe { raddlehue_middle(a, b) };
-    let expected = match reference::middle(a, b) {
-        Ok(azimuth) => MiddleNumbers { refusal: 0, azimuth },
-        Err(refusal) => MiddleNumbers { refusal, azimuth: 0 },
-    };
-    if ours != expected {
-        fail("middle", format!("{a} and {b}"), format!("{ours:?}"), format!("{expected:?}"));
-    }
+    let expected = answer_one(reference::middle(a, b).map_err(u32::from));
+    same("middle", (a, b), middle(a, b), expected, &mut seen.middles);
 }
 
-fn refraction(random: &mut Random, air: GivenAir) {
-    let elevation = random.field(-QUARTER_TURN, QUARTER_TURN);
-    let ours = unsafe { raddlehue_refraction(elevation, air) };
-    let judged = reference::request::check_air(&reference_air(air));
-    let (refusal, expected) = match judged {
-        Ok(()) => (0, reference::refraction(elevation, reference_air(air))),
-        Err(refusal) => (refusal, 0.0),
+fn refraction_of(random: &mut Random, air: Air, seen: &mut Seen) {
+    let elevation = match random.below(16) {
+        0 => random.outside(-QUARTER_TURN, QUARTER_TURN),
+        _ => random.field(-QUARTER_TURN, QUARTER_TURN),
     };
-    if ours.refusal != refusal || ours.refraction.to_bits() != expected.to_bits() {
-        fail("refraction", format!("{elevation} in {air:?}"), format!("{ours:?}"), format!("{refusal} {expected:?}"));
-    }
+    let within = if (-QUARTER_TURN..=QUARTER_TURN).contains(&elevation) { Ok(()) } else { Err(103) };
+    let judged = kind_refusal(air.kind).and(within).and_then(|()| reference::request::check_air(&reference_air(air)).map_err(u32::from));
+    let expected = answer_one(judged.map(|()| reference::refraction(elevation, reference_air(air)).to_bits() as i64));
+    same("refraction", (elevation, air), refraction(elevation, air), expected, &mut seen.refractions);
 }
 
 // A number of any size: as many are short as long.
@@ -285,53 +301,74 @@ fn any(random: &mut Random) -> i64 {
 
 fn leaves(random: &mut Random) {
     let (x, y) = (any(random), any(random));
-    let ours = unsafe { (raddlehue_sine(x), raddlehue_cosine(x), raddlehue_arctangent(y, x) as i64, raddlehue_root(x as u64)) };
+    let ours = unsafe { (raddlehue_sine(x), raddlehue_cosine(x), raddlehue_arctangent(y, x), raddlehue_root(x as u64)) };
     let expected = (reference::sine(x), reference::cosine(x), reference::arctangent(y, x), reference::root(x as u64));
-    if ours != expected {
-        fail("sine, cosine, arctangent, root", format!("{x}, {y}"), format!("{ours:?}"), format!("{expected:?}"));
-    }
+    same("sine, cosine, arctangent, root", (x, y), (0, ours), (0, expected), &mut [0; 256]);
 }
 
-fn sums(random: &mut Random) {
-    let n = random.between(-31_557_248_009, 31_872_608_008);
-    let (moon, sun, nutation, sidereal) =
-        unsafe { (raddlehue_moon_sums(n), raddlehue_sun_sums(n), raddlehue_nutation(n), raddlehue_mean_sidereal(n)) };
-    let ours = [
-        moon.longitude as i64, moon.latitude, moon.metres, sun.longitude, sun.latitude, sun.radius,
-        nutation.longitude, nutation.obliquity, nutation.true_obliquity, sidereal.mean as i64,
-    ];
-    let (moon, sun, nutation) = (reference::moon(n), reference::sun(n), reference::nutation(n));
-    let expected = [
-        moon.longitude, moon.latitude, moon.metres, sun.longitude, sun.latitude, sun.radius,
-        nutation.longitude, nutation.obliquity, nutation.true_obliquity, reference::mean_sidereal(n),
-    ];
-    if ours != expected {
-        fail("sums", format!("{n}"), format!("{ours:?}"), format!("{expected:?}"));
+fn sums_at(random: &mut Random, seen: &mut Seen) {
+    let n = match random.below(16) {
+        0 => random.outside(-FURTHEST, FURTHEST),
+        _ => random.field(-FURTHEST, FURTHEST),
+    };
+    let reached = if (-FURTHEST..=FURTHEST).contains(&n) { Ok(n) } else { Err(104) };
+    let moon = reached.map(reference::moon).map(|moon| [moon.longitude, moon.latitude, moon.metres]);
+    let sun = reached.map(reference::sun).map(|sun| [sun.longitude, sun.latitude, sun.radius]);
+    let angles = reached.map(reference::nutation).map(|found| [found.longitude, found.obliquity, found.true_obliquity]);
+    same("sums of the Moon", n, moon_sums(n), answer(moon), &mut seen.sums);
+    same("sums of the Sun", n, sun_sums(n), answer(sun), &mut seen.sums);
+    same("nutation", n, nutation(n), answer(angles), &mut seen.sums);
+    same("mean sidereal time", n, mean_sidereal(n), answer_one(reached.map(reference::mean_sidereal)), &mut seen.sums);
+}
+
+fn date(random: &mut Random, asked: &Request, seen: &mut Seen) {
+    let [year, month, mut day, ..] = asked.numbers;
+    if random.one_in(4) {
+        day = random.between(0, 32);
     }
+    let expected = answer_one(reference::day_count(year, month, day).map_err(u32::from));
+    same("day count", (year, month, day), day_count(year, month, day), expected, &mut seen.instants);
+}
+
+// Every refusal of a kind of call, each to be seen; the accepted too.
+fn complete(what: &str, seen: &[u64; 256], refusals: impl IntoIterator<Item = usize>) -> String {
+    let mut counts = vec![];
+    for refusal in [0].into_iter().chain(refusals) {
+        if seen[refusal] == 0 {
+            eprintln!("differential: {what}: no request of this run was given {refusal}");
+            exit(1);
+        }
+        counts.push(format!("{refusal}: {}", seen[refusal]));
+    }
+    format!("    {what} {}", counts.join(", "))
 }
 
 fn main() {
     let numbers: Vec<u64> = env::args().skip(1).filter_map(|word| word.parse().ok()).collect();
     let count = numbers.first().copied().unwrap_or(1_000_000);
     let mut random = Random(numbers.get(1).copied().unwrap_or(1));
-    let mut refused = [0u64; 16];
+    let none = [0; 256];
+    let mut seen = Seen { places: none, instants: none, batches: none, middles: none, refractions: none, sums: none };
     for turn in 0..count {
         let mut asked = request(&mut random);
-        place(&asked);
-        shown(&asked);
-        let answer = unsafe { raddlehue_place(asked.start(), asked.body, asked.point(), asked.air) };
-        refused[answer.refusal as usize] += 1;
-        refraction(&mut random, asked.air);
-        middle(&mut random);
+        place_of(&asked, &mut seen);
+        instant_of(&asked, &mut seen);
+        date(&mut random, &asked, &mut seen);
+        refraction_of(&mut random, asked.air, &mut seen);
+        middle_of(&mut random, &mut seen);
         leaves(&mut random);
         if turn % 4 == 0 {
-            batch(&mut random, &mut asked);
-            sums(&mut random);
+            batch_of(&mut random, &mut asked, &mut seen);
+            sums_at(&mut random, &mut seen);
         }
     }
-    if let Some(missing) = (0..12).find(|&number| refused[number] == 0) {
-        eprintln!("differential: no request was answered {missing}");
-        exit(1);
-    }
-    println!("differential: {count} requests, 0 mismatches; answered and refused 1 to 11: {:?}", &refused[..12]);
+    let drawn = [
+        complete("places", &seen.places, (1..=11).chain([101, 102])),
+        complete("instants and dates", &seen.instants, 1..=6),
+        complete("batches", &seen.batches, (1..=9).chain([12, 13, 101])),
+        complete("middles", &seen.middles, [14, 15]),
+        complete("refractions", &seen.refractions, [10, 11, 102, 103]),
+        complete("sums", &seen.sums, [104]),
+    ];
+    println!("differential: {count} requests, 0 mismatches; answered (0) and refused\n{}", drawn.join("\n"));
 }

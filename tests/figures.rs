@@ -11,18 +11,13 @@ use raddlehue_reference as reference;
 mod archive;
 use archive::*;
 
-const POINT: Point = Point { longitude: -1_051_786_000, latitude: 397_424_760, height: 1830 };
-const AIR: GivenAir = GivenAir { kind: 2, pressure: 820.0, temperature: 11.0 };
+const POINT: [i64; 3] = [-1_051_786_000, 397_424_760, 1830];
+const AIR: Air = Air { kind: 2, pressure: 820.0, temperature: 11.0 };
 
 // A different minute of a different day for each call.
 fn numbers(call: u64) -> [i64; 9] {
     let [year, month, day] = [1900 + call % 201, 1 + call % 12, 1 + call % 28];
     [year, month, day, call * 7 % 24, call * 13 % 60, call * 17 % 60, 0, 0, 670].map(|number| number as i64)
-}
-
-fn start(call: u64) -> Start {
-    let [year, month, day, hour, minute, second, fraction, ut1, delta] = numbers(call);
-    Start { year, month, day, hour, minute, second, fraction, ut1, delta }
 }
 
 fn reference_start(call: u64) -> reference::Start {
@@ -31,7 +26,7 @@ fn reference_start(call: u64) -> reference::Start {
 }
 
 fn reference_point() -> reference::Point {
-    reference::Point { longitude: POINT.longitude, latitude: POINT.latitude, height: POINT.height }
+    reference::Point { longitude: POINT[0], latitude: POINT[1], height: POINT[2] }
 }
 
 fn reference_air() -> reference::Air {
@@ -46,9 +41,10 @@ fn reference_body(body: u32) -> reference::Body {
     }
 }
 
-fn place(body: u32, call: u64) -> i64 {
-    let place = unsafe { raddlehue_place(start(call), body, POINT, AIR) };
-    place.azimuth ^ place.elevation
+fn place_of(body: u32, call: u64) -> i64 {
+    let mut place = [0; 2];
+    unsafe { raddlehue_place(&numbers(call), body, &POINT, AIR.kind, AIR.pressure, AIR.temperature, &mut place) };
+    place[0] ^ place[1]
 }
 
 fn reference_place(body: u32, call: u64) -> i64 {
@@ -56,9 +52,10 @@ fn reference_place(body: u32, call: u64) -> i64 {
     place.map_or(0, |place| place.azimuth ^ place.elevation)
 }
 
-fn shown(body: u32, call: u64) -> i64 {
-    let shown = unsafe { raddlehue_shown_place(start(call), body, POINT, AIR) };
-    (shown.azimuth.to_bits() ^ shown.elevation.to_bits()) as i64
+fn shown_of(body: u32, call: u64) -> i64 {
+    let mut shown = [0.0; 3];
+    unsafe { raddlehue_shown_place(&numbers(call), body, &POINT, AIR.kind, AIR.pressure, AIR.temperature, &mut shown) };
+    (shown[0].to_bits() ^ shown[1].to_bits()) as i64
 }
 
 fn reference_shown(body: u32, call: u64) -> i64 {
@@ -75,10 +72,21 @@ fn offsets() -> Vec<u32> {
 fn day(body: u32, call: u64) -> i64 {
     let offsets = offsets();
     let (mut azimuths, mut elevations) = (vec![0; MINUTES], vec![0; MINUTES]);
-    let at = Start { hour: 0, minute: 0, second: 0, ..start(call) };
+    let mut at = numbers(call);
+    at[3..6].fill(0);
+    let (length, mut told) = (MINUTES as u64, [0; 2]);
     unsafe {
         raddlehue_batch(
-            at, body, POINT, offsets.as_ptr(), MINUTES, azimuths.as_mut_ptr(), MINUTES, elevations.as_mut_ptr(), MINUTES,
+            &at,
+            body,
+            &POINT,
+            offsets.as_ptr(),
+            length,
+            azimuths.as_mut_ptr(),
+            length,
+            elevations.as_mut_ptr(),
+            length,
+            &mut told,
         )
     };
     azimuths.iter().chain(&elevations).fold(0, |sum, entry| sum ^ entry)
@@ -91,7 +99,20 @@ fn reference_day(body: u32, call: u64) -> i64 {
     azimuths.iter().chain(&elevations).fold(0, |sum, entry| sum ^ entry)
 }
 
-fn instant(call: u64) -> i64 {
+// A sum's answer, one of its numbers.
+fn sums(export: unsafe extern "C" fn(i64, *mut [i64; 3]) -> u32, call: u64, at: usize) -> i64 {
+    let mut sums = [0; 3];
+    unsafe { export(instant_at(call), &mut sums) };
+    sums[at]
+}
+
+fn middle_of(a: i64, b: i64) -> i64 {
+    let mut azimuth = 0;
+    unsafe { raddlehue_middle(a, b, &mut azimuth) };
+    azimuth
+}
+
+fn instant_at(call: u64) -> i64 {
     (call * 1_000_003 % 63_000_000_000) as i64 - 31_500_000_000
 }
 
@@ -107,29 +128,29 @@ struct Call {
 }
 
 const CALLS: [Call; 13] = [
-    Call { name: "place of the Sun", places: 1, ours: |call| place(0, call), reference: |call| reference_place(0, call) },
-    Call { name: "place of the Moon", places: 1, ours: |call| place(1, call), reference: |call| reference_place(1, call) },
-    Call { name: "shown place of the Sun", places: 1, ours: |call| shown(0, call), reference: |call| reference_shown(0, call) },
-    Call { name: "shown place of the Moon", places: 1, ours: |call| shown(1, call), reference: |call| reference_shown(1, call) },
+    Call { name: "place of the Sun", places: 1, ours: |call| place_of(0, call), reference: |call| reference_place(0, call) },
+    Call { name: "place of the Moon", places: 1, ours: |call| place_of(1, call), reference: |call| reference_place(1, call) },
+    Call { name: "shown place of the Sun", places: 1, ours: |call| shown_of(0, call), reference: |call| reference_shown(0, call) },
+    Call { name: "shown place of the Moon", places: 1, ours: |call| shown_of(1, call), reference: |call| reference_shown(1, call) },
     Call { name: "a day's minutes of the Sun, each", places: 1440, ours: |call| day(0, call), reference: |call| reference_day(0, call) },
     Call { name: "a day's minutes of the Moon, each", places: 1440, ours: |call| day(1, call), reference: |call| reference_day(1, call) },
     Call {
         name: "sums of the Sun",
         places: 1,
-        ours: |call| unsafe { raddlehue_sun_sums(instant(call)) }.longitude,
-        reference: |call| reference::sun(instant(call)).longitude,
+        ours: |call| sums(raddlehue_sun_sums, call, 0),
+        reference: |call| reference::sun(instant_at(call)).longitude,
     },
     Call {
         name: "sums of the Moon",
         places: 1,
-        ours: |call| unsafe { raddlehue_moon_sums(instant(call)) }.metres,
-        reference: |call| reference::moon(instant(call)).metres,
+        ours: |call| sums(raddlehue_moon_sums, call, 2),
+        reference: |call| reference::moon(instant_at(call)).metres,
     },
     Call {
         name: "nutation",
         places: 1,
-        ours: |call| unsafe { raddlehue_nutation(instant(call)) }.true_obliquity,
-        reference: |call| reference::nutation(instant(call)).true_obliquity,
+        ours: |call| sums(raddlehue_nutation, call, 2),
+        reference: |call| reference::nutation(instant_at(call)).true_obliquity,
     },
     Call {
         name: "sine",
@@ -140,7 +161,7 @@ const CALLS: [Call; 13] = [
     Call {
         name: "arctangent",
         places: 1,
-        ours: |call| unsafe { raddlehue_arctangent(angle(call) - 18_000_000_000, angle(call + 1)) } as i64,
+        ours: |call| unsafe { raddlehue_arctangent(angle(call) - 18_000_000_000, angle(call + 1)) },
         reference: |call| reference::arctangent(angle(call) - 18_000_000_000, angle(call + 1)),
     },
     Call {
@@ -152,7 +173,7 @@ const CALLS: [Call; 13] = [
     Call {
         name: "middle of two azimuths",
         places: 1,
-        ours: |call| unsafe { raddlehue_middle(angle(call), angle(call + 1)) }.azimuth,
+        ours: |call| middle_of(angle(call), angle(call + 1)),
         reference: |call| reference::middle(angle(call), angle(call + 1)).unwrap_or(0),
     },
 ];

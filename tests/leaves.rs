@@ -3,7 +3,7 @@ use std::env;
 use std::fs;
 
 mod archive;
-use archive::{raddlehue_arctangent, raddlehue_cosine, raddlehue_day_count, raddlehue_root, raddlehue_sine, CalendarDay};
+use archive::{day_count, raddlehue_arctangent, raddlehue_cosine, raddlehue_root, raddlehue_sine, POISON};
 
 fn numbers(text: &str) -> Vec<i64> {
     text.split_whitespace().map(|word| word.parse().unwrap()).collect()
@@ -14,7 +14,7 @@ fn answer(kind: &str, input: &[i64]) -> Option<Vec<i64>> {
     unsafe {
         match kind {
             "sine" => Some(vec![raddlehue_sine(input[0]), raddlehue_cosine(input[0])]),
-            "atan" => Some(vec![raddlehue_arctangent(input[0], input[1]) as i64]),
+            "atan" => Some(vec![raddlehue_arctangent(input[0], input[1])]),
             "root" => Some(vec![raddlehue_root(input[0] as u64) as i64]),
             _ => None,
         }
@@ -48,8 +48,8 @@ fn calendar() -> usize {
                 } else {
                     0
                 };
-                let expected = CalendarDay { refusal, days: if refusal == 0 { days } else { 0 } };
-                assert_eq!(unsafe { raddlehue_day_count(year, month, day) }, expected, "{year}-{month}-{day}");
+                let written = if refusal == 0 { days } else { POISON };
+                assert_eq!(day_count(year, month, day), (refusal, written), "{year}-{month}-{day}");
                 days += (refusal == 0) as i64;
                 count += 1;
             }

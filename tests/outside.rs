@@ -1,16 +1,19 @@
 // Places against an outside ephemeris (tests/outside/places.csv: JPL's DE431), through the archive: a test of truth rather than of rules.
 //
-// Azimuth times cos(elevation), and elevation, are compared; the reports' theory allows 0.0003 degree for the Sun and 0.005 degree for the Moon.
+// Azimuth times cos(elevation), and elevation, are compared. What is allowed, 0.0003 degree for the Sun and 0.005 degree for the Moon, is ours, set from what was
+// measured (docs/FIGURES.md). The reports state: 004 for the Sun 0.0003 degree; 003 for the Moon 0.001 degree in zenith angle and 0.003 degree in azimuth.
 use std::env;
 use std::fs;
 use std::process::exit;
 
 mod archive;
-use archive::{raddlehue_place, GivenAir, Point, Start};
+use archive::{place, MOON, NO_AIR, SUN};
 
 const LINES: usize = 116;
 
-const NO_AIR: GivenAir = GivenAir { kind: 0, pressure: 0.0, temperature: 0.0 };
+// In degrees, ours: the theory's own error and the coarseness of the reports' rules, with room.
+const SUN_WITHIN: f64 = 0.0003;
+const MOON_WITHIN: f64 = 0.005;
 
 fn fail(why: String) -> ! {
     eprintln!("outside: {why}");
@@ -25,26 +28,15 @@ fn number<T: std::str::FromStr>(word: &str) -> T {
 fn differences(line: &str) -> (bool, [f64; 2]) {
     let words: Vec<&str> = line.split(',').collect();
     let whole: Vec<i64> = words[..12].iter().map(|word| number(word)).collect();
+    let numbers: &[i64; 12] = whole.first_chunk().unwrap();
     let is_moon = words[12] == "moon";
     let [azimuth, elevation] = [13, 14].map(|at| number::<f64>(words[at]));
-    let start = Start {
-        year: whole[0],
-        month: whole[1],
-        day: whole[2],
-        hour: whole[3],
-        minute: whole[4],
-        second: whole[5],
-        fraction: whole[6],
-        ut1: whole[7],
-        delta: whole[8],
-    };
-    let point = Point { longitude: whole[9], latitude: whole[10], height: whole[11] };
-    let place = unsafe { raddlehue_place(start, u32::from(is_moon), point, NO_AIR) };
-    if place.refusal != 0 {
-        fail(format!("{line}: refused {}", place.refusal));
+    let (refusal, place) = place(numbers, if is_moon { MOON } else { SUN }, NO_AIR);
+    if refusal != 0 {
+        fail(format!("{line}: refused {refusal}"));
     }
-    let turned = (place.azimuth as f64 / 1e8 - azimuth + 540.0).rem_euclid(360.0) - 180.0;
-    let up = place.elevation as f64 / 1e8 - elevation;
+    let turned = (place[0] as f64 / 1e8 - azimuth + 540.0).rem_euclid(360.0) - 180.0;
+    let up = place[1] as f64 / 1e8 - elevation;
     (is_moon, [(turned * elevation.to_radians().cos()).abs(), up.abs()])
 }
 
@@ -55,7 +47,7 @@ fn main() {
     let mut count = 0;
     for line in text.lines().skip(1) {
         let (is_moon, found) = differences(line);
-        let allowed = if is_moon { 0.005 } else { 0.0003 };
+        let allowed = if is_moon { MOON_WITHIN } else { SUN_WITHIN };
         if found.iter().any(|difference| *difference > allowed) {
             fail(format!("{line}: {found:?} degree away"));
         }
@@ -68,5 +60,5 @@ fn main() {
         fail(format!("{count} lines, expected {LINES}"));
     }
     let [sun, moon] = largest.map(|[across, up]| format!("{across:.6} across and {up:.6} up"));
-    println!("outside: {count} places within the reports' theory; at most, in degrees, Sun {sun}, Moon {moon}");
+    println!("outside: {count} places, the Sun's within {SUN_WITHIN} and the Moon's within {MOON_WITHIN}; at most, in degrees, Sun {sun}, Moon {moon}");
 }

@@ -14,23 +14,36 @@ static void (*entry)(void);
 
 static raddlehue_start_t start = {2003, 10, 17, 19, 30, 30, 0, 0, 670};
 static raddlehue_point_t point = {-1051786000, 397424760, 1830};
-static raddlehue_air_t air = {RADDLEHUE_AIR_MEASURED, 820.0, 11.0};
+static const double pressure = 820.0, temperature = 11.0;
 static uint32_t body;
 static uint32_t offsets[COUNT];
 static int64_t azimuths[COUNT], elevations[COUNT];
-static volatile int64_t kept;
+static raddlehue_place_t place;
+static raddlehue_shown_place_t shown;
+static raddlehue_batch_t told;
+static raddlehue_instant_t moment;
+static raddlehue_moon_sums_t moon;
+static raddlehue_sun_sums_t sun;
+static raddlehue_nutation_t angles;
+static int64_t number;
+static double degrees;
+static volatile uint64_t kept;
 
 static void nothing(void) {}
-static void place(void) { kept = raddlehue_place(start, body, point, air).azimuth; }
-static void shown_place(void) { kept = (int64_t)raddlehue_shown_place(start, body, point, air).azimuth; }
-static void batch(void) { kept = (int64_t)raddlehue_batch(start, body, point, offsets, COUNT, azimuths, COUNT, elevations, COUNT).count; }
-static void middle(void) { kept = raddlehue_middle(35990000000, 10000000).azimuth; }
-static void refraction(void) { kept = (int64_t)raddlehue_refraction(0, air).refraction; }
-static void day_count(void) { kept = raddlehue_day_count(2100, 12, 31).days; }
-static void moon_sums(void) { kept = raddlehue_moon_sums(0).metres; }
-static void sun_sums(void) { kept = raddlehue_sun_sums(0).radius; }
-static void nutation(void) { kept = raddlehue_nutation(0).obliquity; }
-static void mean_sidereal(void) { kept = (int64_t)raddlehue_mean_sidereal(0).mean; }
+static void plain_place(void) { kept = raddlehue_place(&start, body, &point, RADDLEHUE_AIR_MEASURED, pressure, temperature, &place); }
+static void shown_place(void) { kept = raddlehue_shown_place(&start, body, &point, RADDLEHUE_AIR_MEASURED, pressure, temperature, &shown); }
+static void batch(void) { kept = raddlehue_batch(&start, body, &point, offsets, COUNT, azimuths, COUNT, elevations, COUNT, &told); }
+static void middle(void) { kept = raddlehue_middle(35990000000, 10000000, &number); }
+static void refraction(void) { kept = raddlehue_refraction(0, RADDLEHUE_AIR_MEASURED, pressure, temperature, &degrees); }
+static void day_count(void) { kept = raddlehue_day_count(2100, 12, 31, &number); }
+static void instant(void) { kept = raddlehue_instant(&start, &moment); }
+static void moon_sums(void) { kept = raddlehue_moon_sums(0, &moon); }
+static void sun_sums(void) { kept = raddlehue_sun_sums(0, &sun); }
+static void nutation(void) { kept = raddlehue_nutation(0, &angles); }
+static void mean_sidereal(void) { kept = raddlehue_mean_sidereal(0, &number); }
+static void sine(void) { kept = (uint64_t)raddlehue_sine(3000000000); }
+static void arctangent(void) { kept = (uint64_t)raddlehue_arctangent(INT64_MAX, INT64_MIN); }
+static void root(void) { kept = raddlehue_root(UINT64_MAX); }
 
 static void run(void) { entry(); }
 
@@ -64,15 +77,19 @@ int main(void) {
         offsets[i] = i * 600;
     }
     puts("| Entry point | bytes of stack |\n|---|---:|");
-    row("raddlehue_place", place);
+    row("raddlehue_place", plain_place);
     row("raddlehue_shown_place", shown_place);
     row("raddlehue_batch", batch);
     row("raddlehue_middle", middle);
     row("raddlehue_refraction", refraction);
     row("raddlehue_day_count", day_count);
+    row("raddlehue_instant", instant);
     row("raddlehue_moon_sums", moon_sums);
     row("raddlehue_sun_sums", sun_sums);
     row("raddlehue_nutation", nutation);
     row("raddlehue_mean_sidereal", mean_sidereal);
+    row("raddlehue_sine", sine);
+    row("raddlehue_arctangent", arctangent);
+    row("raddlehue_root", root);
     return 0;
 }

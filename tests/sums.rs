@@ -4,10 +4,12 @@ use std::fs;
 use std::process::exit;
 
 mod archive;
-use archive::{raddlehue_mean_sidereal, raddlehue_moon_sums, raddlehue_nutation, raddlehue_sun_sums};
+use archive::{mean_sidereal, moon_sums, nutation, sun_sums, POISON};
 
 // 1.011 centuries, in tenths of a second.
 const FURTHEST: i64 = 36_525 * 864_000 * 1011 / 1000;
+
+const OUT_OF_REACH: u32 = 104;
 
 const VECTORS: usize = 65;
 
@@ -20,27 +22,21 @@ fn number(word: &str) -> i64 {
     word.parse().unwrap_or_else(|_| fail(format!("'{word}' is no number")))
 }
 
-// What the archive answers at one instant, by export: whether it is within reach, and the values.
-fn answers(n: i64) -> [(u8, Vec<i64>); 4] {
-    let (moon, sun, nutation, sidereal) = unsafe {
-        (raddlehue_moon_sums(n), raddlehue_sun_sums(n), raddlehue_nutation(n), raddlehue_mean_sidereal(n))
-    };
-    [
-        (moon.within, vec![moon.longitude as i64, moon.latitude, moon.metres]),
-        (sun.within, vec![sun.longitude, sun.latitude, sun.radius]),
-        (nutation.within, vec![nutation.longitude, nutation.obliquity, nutation.true_obliquity]),
-        (sidereal.within, vec![sidereal.mean as i64]),
-    ]
+// What the archive answers at one instant, by export: the refusal, and what was written.
+fn answers(n: i64) -> [(u32, Vec<i64>); 4] {
+    let [moon, sun, nutation] = [moon_sums(n), sun_sums(n), nutation(n)].map(|(refusal, sums)| (refusal, sums.to_vec()));
+    let (refusal, sidereal) = mean_sidereal(n);
+    [moon, sun, nutation, (refusal, vec![sidereal])]
 }
 
-fn compare(n: i64, within: u8, expected: &[Vec<i64>]) {
+fn compare(n: i64, refusal: u32, expected: &[Vec<i64>]) {
     let answers = answers(n);
     if expected.len() != answers.len() {
         fail(format!("{n}: {} groups of values", expected.len()));
     }
-    for ((flag, values), wanted) in answers.iter().zip(expected) {
-        if *flag != within || values != wanted {
-            fail(format!("{n}: within {flag} and {values:?}, expected {within} and {wanted:?}"));
+    for ((number, values), wanted) in answers.iter().zip(expected) {
+        if *number != refusal || values != wanted {
+            fail(format!("{n}: refusal {number} and {values:?}, expected {refusal} and {wanted:?}"));
         }
     }
 }
@@ -54,23 +50,23 @@ fn vectors(path: &str) -> usize {
             let n = number(groups.next().unwrap_or(""));
             let expected: Vec<Vec<i64>> =
                 groups.map(|group| group.split_whitespace().map(number).collect()).collect();
-            compare(n, 1, &expected);
+            compare(n, 0, &expected);
             count += 1;
         }
     }
     count
 }
 
-// The last instants within reach are answered, and those beyond get zeros.
+// The last instants within reach are answered; those beyond are refused, and nothing is written.
 fn reach() {
     for n in [-FURTHEST, FURTHEST] {
-        if answers(n).iter().any(|(within, _)| *within != 1) {
+        if answers(n).iter().any(|(refusal, _)| *refusal != 0) {
             fail(format!("{n} is out of reach"));
         }
     }
-    let zeros = [vec![0; 3], vec![0; 3], vec![0; 3], vec![0]];
+    let nothing = [3, 3, 3, 1].map(|length| vec![POISON; length]);
     for n in [i64::MIN, i64::MIN + 1, -2 * FURTHEST, -FURTHEST - 1, FURTHEST + 1, 1 << 40, i64::MAX - 1, i64::MAX] {
-        compare(n, 0, &zeros);
+        compare(n, OUT_OF_REACH, &nothing);
     }
 }
 

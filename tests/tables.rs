@@ -1,8 +1,10 @@
 // Every entry of the code's tables and polynomials against the csv files in tests/tables.
 use std::fs;
+use std::path::Path;
 use std::process::exit;
 
-const SUMS: &str = "crates/sums/src";
+// Where the code has its polynomials, and where its tables.
+const CODE: [&str; 2] = ["crates/sums/src", "crates/sum_tables/src"];
 const TABLES: &str = "tests/tables";
 
 // The Sun's groups, which have the same names in the code, with the rows that 01 counts.
@@ -67,7 +69,8 @@ fn numbers(fields: &[String]) -> Vec<i64> {
 
 // What stands between `const NAME: .. =` and its semicolon; the type may hold a semicolon of its own.
 fn constant(file: &str, name: &str) -> String {
-    let text = read(format!("{SUMS}/{file}"));
+    let path = CODE.map(|folder| format!("{folder}/{file}")).into_iter().find(|path| Path::new(path).exists());
+    let text = read(path.unwrap_or_else(|| fail(format!("no folder of {CODE:?} has {file}"))));
     let heads: Vec<_> = text.match_indices(&format!("const {name}: ")).collect();
     if heads.len() != 1 {
         fail(format!("{file} has {} constants {name}", heads.len()));
