@@ -1,34 +1,47 @@
-# make               prove and build the program `places`, and show a day of the Sun and the Moon
-# make test          the gate: outside checks, every proof from nothing, every must-fail edit
+# make               build the command `raddlehue` over the proved archive, and show today's Sun and Moon
+# make test          the gate: outside checks, every proof from nothing (it removes target/ first), every must-fail edit
 # make differential  a million random requests, the archive against the ordinary Rust version
 # make figures       measure, and write docs/FIGURES.md
 # make lib           prove and build the archive for C and Rust, target/lib/libraddlehue.a
-# make install       install it, its header, the documents and a pkg-config file: PREFIX=/usr/local, and DESTDIR before it
+# make install       install it, the command, the header, the documents and a pkg-config file: PREFIX=/usr/local, and DESTDIR before it
+# make watch         the same module for the watch's processor, tried against the archive under qemu: target/watch/libraddlehue.a (CORE, FLOAT, OPT: docs/PORTS.md)
+# make phone         likewise for AArch64: target/phone/libraddlehue.a
+# make wasm          likewise for browsers and node: target/wasm/raddlehue.wasm and raddlehue.mjs
 SHELL := /bin/bash -o pipefail
 
 PREFIX ?= /usr/local
+BINDIR ?= $(PREFIX)/bin
 LIBDIR ?= $(PREFIX)/lib
 INCLUDEDIR ?= $(PREFIX)/include
 DOCDIR ?= $(PREFIX)/share/doc/raddlehue
 INSTALL ?= install
 
 LIB := target/lib/libraddlehue.a
+COMMAND := target/bin/raddlehue
 SOURCES := crates.txt $(shell find crates -name '*.rt' -o -name '*.antt')
+COMMAND_SOURCES := $(shell find command bindings/rust -path '*/target' -prune -o -type f -print)
 VERSION = $(shell sed -n 's/^\#define RADDLEHUE_VERSION "\(.*\)"/\1/p' include/raddlehue.h)
 
-# the first line of every recipe that needs the kit
+# the first line of every recipe that needs the kit, or Rust
 define needs_rt
 @command -v rt > /dev/null || { echo "make $@ needs rt, the Rattle kit (its compiler and prover; 'rt version' prints its identity), and no rt is on the PATH" >&2; exit 1; }
 endef
+define needs_cargo
+@command -v cargo > /dev/null || { echo "make $@ needs cargo and rustc (Rust 1.84 or newer), and no cargo is on the PATH" >&2; exit 1; }
+endef
 
-.PHONY: day test differential figures lib install
+.PHONY: today test differential figures lib install watch phone wasm
 
-day:
-	$(needs_rt)
-	@echo "proving and building the program 'places': some minutes the first time"
-	@rt check places | sed -n 's/^rt: /    /p'
-	@echo
-	@tools/day
+# Greenwich, where longitudes begin
+today: $(COMMAND)
+	@$(COMMAND) day "$$(date -u +%Y-%m-%d)" --lat 51.4779N --lon 0 --height 46
+
+$(COMMAND): $(LIB) $(COMMAND_SOURCES)
+	$(needs_cargo)
+	@echo "building the command $(COMMAND)"
+	@CARGO_TARGET_DIR=target/command cargo build --release --offline --locked --quiet --manifest-path command/Cargo.toml
+	@mkdir -p $(dir $(COMMAND))
+	@cp target/command/release/raddlehue $(COMMAND)
 
 test:
 	$(needs_rt)
@@ -43,11 +56,11 @@ figures:
 	$(needs_rt)
 	@tools/figures
 
-# rt keeps what is proved, and knows by itself what has changed
+# rt keeps what is proved, knows by itself what has changed, and prints a line for each crate
 lib:
 	$(needs_rt)
-	@echo "proving and building the archive"
-	@rt staticlib capi
+	@echo "proving and building the archive: some minutes the first time, a line for each crate"
+	@rt staticlib capi | grep --line-buffered '^rt: '
 	@mkdir -p $(dir $(LIB))
 	@cp target/staticlib/libcapi.a $(LIB)
 	@echo "$(LIB)"
@@ -56,8 +69,9 @@ lib:
 $(LIB): $(SOURCES)
 	@$(MAKE) --no-print-directory lib
 
-install: $(LIB)
-	@$(INSTALL) -d "$(DESTDIR)$(LIBDIR)/pkgconfig" "$(DESTDIR)$(INCLUDEDIR)" "$(DESTDIR)$(DOCDIR)/docs"
+install: $(LIB) $(COMMAND)
+	@$(INSTALL) -d "$(DESTDIR)$(BINDIR)" "$(DESTDIR)$(LIBDIR)/pkgconfig" "$(DESTDIR)$(INCLUDEDIR)" "$(DESTDIR)$(DOCDIR)/docs"
+	@$(INSTALL) -m 755 $(COMMAND) "$(DESTDIR)$(BINDIR)"
 	@$(INSTALL) -m 644 $(LIB) "$(DESTDIR)$(LIBDIR)"
 	@$(INSTALL) -m 644 include/raddlehue.h "$(DESTDIR)$(INCLUDEDIR)"
 	@$(INSTALL) -m 644 README.md "$(DESTDIR)$(DOCDIR)"
@@ -66,3 +80,9 @@ install: $(LIB)
 		> "$(DESTDIR)$(LIBDIR)/pkgconfig/raddlehue.pc"
 	@chmod 644 "$(DESTDIR)$(LIBDIR)/pkgconfig/raddlehue.pc"
 	@echo "raddlehue $(VERSION) is installed under $(DESTDIR)$(PREFIX)"
+
+watch phone wasm:
+	@ports/need $@
+	@ports/module
+	@ports/build $@
+	@ports/compare $@

@@ -1,0 +1,8 @@
+/* The program of a comparison, the same on every machine: COUNT random requests from SEED, then the vectors. */
+#include "requests.h"
+
+int main(void) {
+    run_random(COUNT, SEED);
+    run_vectors(vectors);
+    return 0;
+}

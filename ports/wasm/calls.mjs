@@ -1,0 +1,50 @@
+// node ports/wasm/calls.mjs RADDLEHUE.WASM : raddlehue.mjs as a page uses it. Its own example, a day by the minute against single places, and what it has to throw at.
+import assert from 'node:assert/strict';
+import { readFileSync } from 'node:fs';
+import { AIR_NONE, AIR_STANDARD, MOON, SUN, load, measured } from './raddlehue.mjs';
+
+const bytes = readFileSync(process.argv[2]);
+const sky = await load(bytes);
+const start = { year: 2003, month: 10, day: 17, hour: 19, minute: 30, second: 30, fraction_tenths: 0, ut1_tenths: 0, delta_t_tenths: 670 };
+const point = { longitude_e7: -1051786000, latitude_e7: 397424760, height_metres: 1830 };
+
+// the example of its comment, word for word, and the other ways to load
+const comment = readFileSync(new URL('./raddlehue.mjs', import.meta.url), 'utf8');
+const { azimuth_e8, elevation_e8 } = sky.place(start, SUN, point);
+assert.ok(comment.includes(`{ refusal: 0, azimuth_e8: ${azimuth_e8}n, elevation_e8: ${elevation_e8}n }`), `${azimuth_e8} ${elevation_e8}`);
+const compiled = await WebAssembly.compile(bytes);
+for (const source of [compiled, Promise.resolve(bytes), new Response(bytes)]) {
+  assert.deepEqual((await load(source)).place(start, SUN, point), { refusal: 0, azimuth_e8, elevation_e8 });
+}
+await assert.rejects(load(new Response('', { status: 404 })), /404/);
+
+// an air, and a refusal, which has no other name beside it
+const shown = sky.shown_place(start, SUN, point, measured(820, 11));
+assert.ok(shown.refusal === 0 && shown.refraction_degrees > 0 && Math.abs(shown.azimuth_degrees - Number(azimuth_e8) / 1e8) < 1e-12);
+assert.deepEqual(sky.shown_place(start, SUN, point, AIR_STANDARD), sky.shown_place(start, SUN, point, measured(1010, 10)));
+assert.equal(sky.shown_place(start, SUN, point, AIR_NONE).refraction_degrees, 0);
+assert.deepEqual(sky.place({ ...start, year: 2101n }, SUN, point), { refusal: 1 });
+assert.deepEqual(sky.place(start, 2, point), { refusal: 101 });
+assert.deepEqual(sky.place(start, SUN, point, measured(NaN, 11)), { refusal: 10 });
+
+// a week by the minute, for which the memory has to grow
+const week = Array.from({ length: 7 * 1440 }, (_, minute) => 600 * minute);
+const batch = sky.batch({ ...start, hour: 0, minute: 0, second: 0 }, MOON, point, new Uint32Array(week));
+assert.equal(batch.azimuths_e8.length, week.length);
+for (let minute = 0; minute < week.length; minute += 97) {
+  const at = { ...start, day: 17 + Math.floor(minute / 1440), hour: Math.floor((minute % 1440) / 60), minute: minute % 60, second: 0 };
+  assert.deepEqual(sky.place(at, MOON, point), { refusal: 0, azimuth_e8: batch.azimuths_e8[minute], elevation_e8: batch.elevations_e8[minute] });
+}
+const eve = { ...start, year: 2100, month: 12, day: 31, hour: 23, minute: 59, second: 59 };
+assert.deepEqual(sky.batch(eve, SUN, point, [0, 9, 10]), { refusal: 13, index: 2 });
+assert.deepEqual(sky.batch(start, SUN, point, []).azimuths_e8, new BigInt64Array(0));
+
+// what is no number of 64 bits, or of 32, never reaches the module
+for (const year of [2003.5, NaN, Infinity, undefined, null, '', 'x', 2n ** 63n, -(2n ** 63n) - 1n]) {
+  assert.throws(() => sky.place({ ...start, year }, SUN, point), undefined, String(year));
+}
+for (const body of [-1, 0.5, 2 ** 32, '0', 0n, undefined]) assert.throws(() => sky.place(start, body, point), RangeError);
+assert.throws(() => sky.batch(start, SUN, point, [2 ** 32]), RangeError);
+assert.throws(() => sky.root(-1n), RangeError);
+assert.equal(sky.root(2n ** 64n - 1n), 2n ** 32n - 1n);
+console.log('wasm: the calls of raddlehue.mjs do as they say');

@@ -1,0 +1,220 @@
+/* Raddlehue for JavaScript: where the Sun and the Moon stand, over raddlehue.wasm, in a browser or in node.
+ *
+ *     import { load, SUN, AIR_NONE } from './raddlehue.mjs';
+ *     const sky = await load(fetch('raddlehue.wasm'));                      // in node: await load(readFileSync('raddlehue.wasm'))
+ *     const start = { year: 2003, month: 10, day: 17, hour: 19, minute: 30, second: 30, fraction_tenths: 0, ut1_tenths: 0, delta_t_tenths: 670 };
+ *     const point = { longitude_e7: -1051786000, latitude_e7: 397424760, height_metres: 1830 };
+ *     sky.place(start, SUN, point)                                           // { refusal: 0, azimuth_e8: 19434024073n, elevation_e8: 3987204605n }
+ *
+ * A call gives an object: `refusal` is 0 and the answer's names stand beside it, or it is the number of the refusal, and (but for the index of a batch) nothing else.
+ * Names and numbers are those of include/raddlehue.h and docs/REFUSALS.md; names say their unit (_e7 and _e8 are 1e-7 and 1e-8 degree, _tenths are tenths of a second).
+ * Whole numbers may be given as Number or BigInt and come back as BigInt, exact; degrees, mbar and degrees Celsius are Numbers. What is no whole number, or none of
+ * 64 bits, is a TypeError or a RangeError; every other number may be given, and what cannot be answered is refused.
+ *
+ *     place(start, body, point[, air])         azimuth_e8, elevation_e8
+ *     shown_place(start, body, point[, air])   azimuth_degrees, elevation_degrees, refraction_degrees
+ *     batch(start, body, point, offsets)       azimuths_e8, elevations_e8: a BigInt64Array each, an entry for each offset (Uint32Array or list, in tenths);
+ *                                              where the refusal is 13, index: the first offset that is too late
+ *     middle(a_e8, b_e8)                       azimuth_e8
+ *     refraction(elevation_e8, air)            refraction_degrees
+ *     day_count(year, month, day)              days
+ *     instant(start)                           ut_tenths, tt_tenths
+ *     moon_sums(tt_tenths)                     longitude_e8, latitude_e8, distance_metres
+ *     sun_sums(tt_tenths)                      longitude_radians_e10, latitude_radians_e10, radius_au_e10
+ *     nutation(tt_tenths)                      longitude_e8, obliquity_e8, true_obliquity_e8
+ *     mean_sidereal(ut_tenths)                 sidereal_e8
+ *     sine(angle_e8), cosine(angle_e8)         a BigInt, times 1e9; nothing is refused by these four
+ *     arctangent(y, x)                         a BigInt, 1e-8 degree
+ *     root(square)                             a BigInt; the square is 0 up to 2^64 - 1
+ *
+ * Without an air a place is asked for without refraction. A loaded module keeps no state between calls; one that is shared by workers is loaded in each of them.
+ */
+export const SUN = 0;
+export const MOON = 1;
+
+/* The air of a request; measured(pressure_mbar, temperature_celsius) makes the third kind. */
+export const AIR_NONE = Object.freeze({ kind: 0, pressure_mbar: 0, temperature_celsius: 0 });
+export const AIR_STANDARD = Object.freeze({ kind: 1, pressure_mbar: 0, temperature_celsius: 0 });
+export const measured = (pressure_mbar, temperature_celsius) => ({ kind: 2, pressure_mbar, temperature_celsius });
+
+const START = ['year', 'month', 'day', 'hour', 'minute', 'second', 'fraction_tenths', 'ut1_tenths', 'delta_t_tenths'];
+const POINT = ['longitude_e7', 'latitude_e7', 'height_metres'];
+
+/* A whole number of 64 bits; BigInt() itself throws at a fraction and at NaN. */
+function whole(number, name) {
+  if (typeof number !== 'number' && typeof number !== 'bigint') throw new TypeError(`${name}: ${number} is no number`);
+  const big = BigInt(number);
+  if (big !== BigInt.asIntN(64, big)) throw new RangeError(`${name}: ${number} has more than 64 bits`);
+  return big;
+}
+
+/* A code, as C's uint32_t: what is none is refused by the module, never wrapped into one. */
+function code(number, name) {
+  if (!Number.isInteger(number) || number < 0 || number > 0xffffffff) throw new RangeError(`${name}: ${number} is no number of 32 bits`);
+  return number;
+}
+
+/* source: the bytes of raddlehue.wasm, a WebAssembly.Module, or a Response, or a promise of one of these. */
+export async function load(source) {
+  let given = await source;
+  if (typeof Response !== 'undefined' && given instanceof Response) {
+    if (!given.ok) throw new Error(`raddlehue.wasm: ${given.status}`);
+    given = await given.arrayBuffer();
+  }
+  const module = given instanceof WebAssembly.Module ? given : await WebAssembly.compile(given);
+  return new Raddlehue(await WebAssembly.instantiate(module));
+}
+
+class Raddlehue {
+  #raw;
+  #base;
+
+  constructor(instance) {
+    this.#raw = instance.exports;
+    // what is handed to a call lies above all that the module has: the start, the point and the answer, then a batch's lists
+    this.#base = this.#raw.__heap_base.value + 15 & ~15;
+    this.#memory(256);
+  }
+
+  /* The module's functions as they are, for tests. */
+  get raw() {
+    return this.#raw;
+  }
+
+  /* A view of the memory with so many bytes from the base on; growing makes older views useless, so each call asks anew. */
+  #memory(bytes) {
+    const memory = this.#raw.memory;
+    const lacking = this.#base + bytes - memory.buffer.byteLength;
+    if (lacking > 0) memory.grow(Math.ceil(lacking / 65536));
+    return new DataView(memory.buffer);
+  }
+
+  #put(at, names, given) {
+    const numbers = names.map((name) => whole(given[name], name));
+    const view = this.#memory(256);
+    numbers.forEach((number, i) => view.setBigInt64(at + 8 * i, number, true));
+    return at;
+  }
+
+  #start(start) {
+    return this.#put(this.#base, START, start);
+  }
+
+  #point(point) {
+    return this.#put(this.#base + 96, POINT, point);
+  }
+
+  get #answer() {
+    return this.#base + 128;
+  }
+
+  /* The refusal, and where there is none the words of the answer by their names. */
+  #answered(refusal, names, read) {
+    const answer = { refusal };
+    if (refusal === 0) {
+      const view = this.#memory(256);
+      names.forEach((name, i) => (answer[name] = view[read](this.#answer + 8 * i, true)));
+    }
+    return answer;
+  }
+
+  #units(refusal, ...names) {
+    return this.#answered(refusal, names, 'getBigInt64');
+  }
+
+  #doubles(refusal, ...names) {
+    return this.#answered(refusal, names, 'getFloat64');
+  }
+
+  #request(start, body, point, air) {
+    return [
+      this.#start(start), code(body, 'body'), this.#point(point),
+      code(air.kind, 'air'), Number(air.pressure_mbar), Number(air.temperature_celsius), this.#answer];
+  }
+
+  place(start, body, point, air = AIR_NONE) {
+    return this.#units(this.#raw.raddlehue_place(...this.#request(start, body, point, air)) >>> 0, 'azimuth_e8', 'elevation_e8');
+  }
+
+  shown_place(start, body, point, air = AIR_NONE) {
+    const refusal = this.#raw.raddlehue_shown_place(...this.#request(start, body, point, air)) >>> 0;
+    return this.#doubles(refusal, 'azimuth_degrees', 'elevation_degrees', 'refraction_degrees');
+  }
+
+  batch(start, body, point, offsets) {
+    const count = offsets.length;
+    const tenths = Array.from(offsets, (offset, i) => code(offset, `offset ${i}`));
+    const [azimuths, elevations] = [this.#base + 256, this.#base + 256 + 8 * count];
+    const list = elevations + 8 * count;
+    const view = this.#memory(256 + 20 * count);
+    tenths.forEach((offset, i) => view.setUint32(list + 4 * i, offset, true));
+    const length = BigInt(count);
+    const refusal = this.#raw.raddlehue_batch(
+      this.#start(start), code(body, 'body'), this.#point(point), list, length, azimuths, length, elevations, length, this.#answer) >>> 0;
+    const answer = { refusal };
+    if (refusal === 0) {
+      const buffer = this.#raw.memory.buffer;
+      answer.azimuths_e8 = new BigInt64Array(buffer.slice(azimuths, azimuths + 8 * count));
+      answer.elevations_e8 = new BigInt64Array(buffer.slice(elevations, elevations + 8 * count));
+    } else if (refusal === 13) {
+      answer.index = Number(this.#memory(256).getBigUint64(this.#answer, true));
+    }
+    return answer;
+  }
+
+  middle(a_e8, b_e8) {
+    return this.#units(this.#raw.raddlehue_middle(whole(a_e8, 'a_e8'), whole(b_e8, 'b_e8'), this.#answer) >>> 0, 'azimuth_e8');
+  }
+
+  refraction(elevation_e8, air) {
+    const refusal = this.#raw.raddlehue_refraction(
+      whole(elevation_e8, 'elevation_e8'), code(air.kind, 'air'), Number(air.pressure_mbar), Number(air.temperature_celsius), this.#answer) >>> 0;
+    return this.#doubles(refusal, 'refraction_degrees');
+  }
+
+  day_count(year, month, day) {
+    const refusal = this.#raw.raddlehue_day_count(whole(year, 'year'), whole(month, 'month'), whole(day, 'day'), this.#answer) >>> 0;
+    return this.#units(refusal, 'days');
+  }
+
+  instant(start) {
+    return this.#units(this.#raw.raddlehue_instant(this.#start(start), this.#answer) >>> 0, 'ut_tenths', 'tt_tenths');
+  }
+
+  moon_sums(tt_tenths) {
+    const refusal = this.#raw.raddlehue_moon_sums(whole(tt_tenths, 'tt_tenths'), this.#answer) >>> 0;
+    return this.#units(refusal, 'longitude_e8', 'latitude_e8', 'distance_metres');
+  }
+
+  sun_sums(tt_tenths) {
+    const refusal = this.#raw.raddlehue_sun_sums(whole(tt_tenths, 'tt_tenths'), this.#answer) >>> 0;
+    return this.#units(refusal, 'longitude_radians_e10', 'latitude_radians_e10', 'radius_au_e10');
+  }
+
+  nutation(tt_tenths) {
+    const refusal = this.#raw.raddlehue_nutation(whole(tt_tenths, 'tt_tenths'), this.#answer) >>> 0;
+    return this.#units(refusal, 'longitude_e8', 'obliquity_e8', 'true_obliquity_e8');
+  }
+
+  mean_sidereal(ut_tenths) {
+    return this.#units(this.#raw.raddlehue_mean_sidereal(whole(ut_tenths, 'ut_tenths'), this.#answer) >>> 0, 'sidereal_e8');
+  }
+
+  sine(angle_e8) {
+    return this.#raw.raddlehue_sine(whole(angle_e8, 'angle_e8'));
+  }
+
+  cosine(angle_e8) {
+    return this.#raw.raddlehue_cosine(whole(angle_e8, 'angle_e8'));
+  }
+
+  arctangent(y, x) {
+    return this.#raw.raddlehue_arctangent(whole(y, 'y'), whole(x, 'x'));
+  }
+
+  root(square) {
+    const big = BigInt(square);
+    if (big !== BigInt.asUintN(64, big)) throw new RangeError(`square: ${square} is no number from 0 to 2^64 - 1`);
+    return BigInt.asUintN(64, this.#raw.raddlehue_root(big));
+  }
+}
