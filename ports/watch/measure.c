@@ -1,0 +1,124 @@
+/* What a call costs on the watch's processor: a line "CALL COUNT STACK" for each. The plugin sections.so counts the instructions between section_begin and
+ * section_end, in the same order. The first line is a call of nothing: what the measuring itself takes.
+ */
+#include <stdint.h>
+
+#include "raddlehue.h"
+#include "requests.h"
+
+extern uint32_t stack_floor;
+
+__attribute__((noinline)) void section_begin(void) { __asm__ volatile("nop"); }
+__attribute__((noinline)) void section_end(void) { __asm__ volatile("nop"); }
+
+enum { REQUESTS = 20, SAMPLES = 60 };
+
+#define PAINT 0xA5A5A5A5u
+
+static int64_t request[REQUESTS][12];
+static uint32_t offsets[SAMPLES];
+static int64_t azimuths[SAMPLES], elevations[SAMPLES];
+static const double pressure = 820.0, temperature = 11.0;
+static uint32_t body;
+static volatile uint32_t kept;
+
+static const raddlehue_start_t *start;
+static const raddlehue_point_t *point;
+static int64_t elevation, a, b;
+static raddlehue_place_t place;
+static raddlehue_shown_place_t shown;
+static raddlehue_batch_t told;
+static int64_t azimuth;
+static double degrees;
+
+static void nothing(void) {}
+static void a_place(void) { kept = raddlehue_place(start, body, point, RADDLEHUE_AIR_MEASURED, pressure, temperature, &place); }
+static void a_shown_place(void) { kept = raddlehue_shown_place(start, body, point, RADDLEHUE_AIR_MEASURED, pressure, temperature, &shown); }
+static void a_batch(void) { kept = raddlehue_batch(start, body, point, offsets, SAMPLES, azimuths, SAMPLES, elevations, SAMPLES, &told); }
+static void a_refraction(void) { kept = raddlehue_refraction(elevation, RADDLEHUE_AIR_MEASURED, pressure, temperature, &degrees); }
+static void a_middle(void) { kept = raddlehue_middle(a, b, &azimuth); }
+
+static char *decimal(char *to, uint32_t v) {
+    char digits[10];
+    int i = 0;
+    do {
+        digits[i++] = (char)('0' + v % 10);
+        v /= 10;
+    } while (v);
+    while (i) {
+        *to++ = digits[--i];
+    }
+    return to;
+}
+
+/* Paints what is free of the stack, calls, and counts the paint that is left. */
+static __attribute__((noinline)) uint32_t used_by(void (*call)(void)) {
+    uint32_t *here, *p;
+    __asm__ volatile("mov %0, sp" : "=r"(here));
+    for (p = &stack_floor; p < here - 16; p++) {
+        *(volatile uint32_t *)p = PAINT;
+    }
+    call();
+    for (p = &stack_floor; *(volatile uint32_t *)p == PAINT; p++) {
+    }
+    return (uint32_t)((char *)here - (char *)p);
+}
+
+static void choose(int i) {
+    const int64_t *n = request[i];
+    start = (const raddlehue_start_t *)(const void *)n;
+    point = (const raddlehue_point_t *)(const void *)(n + 9);
+    elevation = n[10] * 10, a = n[9] + 1800000000, b = n[10] * 10 + 9000000000;
+}
+
+/* A call that is refused would cost next to nothing, and is not measured. */
+static void row(const char *name, void (*call)(void), uint32_t each) {
+    static char line[80];
+    uint32_t stack = 0, refused = 0;
+    section_begin();
+    for (int i = 0; i < REQUESTS; i++) {
+        choose(i);
+        call();
+    }
+    section_end();
+    for (int i = 0; i < REQUESTS; i++) {
+        choose(i);
+        uint32_t used = used_by(call);
+        stack = used > stack ? used : stack;
+        refused += kept != 0;
+    }
+    char *to = line;
+    while (*name) {
+        *to++ = *name++;
+    }
+    *to++ = ' ';
+    to = decimal(to, REQUESTS * each);
+    *to++ = ' ';
+    to = decimal(to, stack);
+    *to++ = '\n';
+    *to = 0;
+    put_text(refused ? "REFUSED\n" : line);
+}
+
+int main(void) {
+    seed(1);
+    for (int i = 0; i < REQUESTS;) {
+        random_request(request[i]);
+        choose(i);
+        a_place();
+        i += kept == 0 && start->year < 2100;
+    }
+    for (uint32_t i = 0; i < SAMPLES; i++) {
+        offsets[i] = i * 600;
+    }
+    kept = 0;
+    row("nothing", nothing, 1);
+    for (body = 0; body < 2; body++) {
+        row(body ? "place-Moon" : "place-Sun", a_place, 1);
+        row(body ? "shown_place-Moon" : "shown_place-Sun", a_shown_place, 1);
+        row(body ? "batch-Moon" : "batch-Sun", a_batch, SAMPLES);
+    }
+    row("refraction", a_refraction, 1);
+    row("middle", a_middle, 1);
+    return 0;
+}

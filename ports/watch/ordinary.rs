@@ -1,0 +1,183 @@
+// The ordinary Rust version (reference/) behind the functions of include/raddlehue.h, to be measured beside the module on the same processor. ports/watch/ordinary
+// compiles it as a part of reference/, so that there is one crate.
+use crate::instant::Instant;
+use crate::request::check_air;
+
+const FURTHEST: i64 = 31_904_733_600;
+const QUARTER_TURN: i64 = 9_000_000_000;
+
+fn start_of(n: &[i64; 9]) -> Start {
+    Start { year: n[0], month: n[1], day: n[2], hour: n[3], minute: n[4], second: n[5], tenth: n[6], ut1: n[7], delta_t: n[8] }
+}
+
+fn point_of(n: &[i64; 3]) -> Point {
+    Point { longitude: n[0], latitude: n[1], height: n[2] }
+}
+
+fn body_of(body: u32) -> Body {
+    if body == 0 {
+        Body::Sun
+    } else {
+        Body::Moon
+    }
+}
+
+fn air_of(kind: u32, pressure: f64, temperature: f64) -> Air {
+    match kind {
+        0 => Air::None,
+        1 => Air::Standard,
+        _ => Air::Measured(pressure, temperature),
+    }
+}
+
+fn write<T>(found: Result<T, u8>, lent: &mut T) -> u32 {
+    match found {
+        Ok(value) => {
+            *lent = value;
+            0
+        }
+        Err(refusal) => u32::from(refusal),
+    }
+}
+
+#[no_mangle]
+pub extern "C" fn raddlehue_place(start: &[i64; 9], body: u32, point: &[i64; 3], air: u32, pressure: f64, temperature: f64, lent: &mut [i64; 2]) -> u32 {
+    if body > 1 {
+        return 101;
+    }
+    if air > 2 {
+        return 102;
+    }
+    let found = place(start_of(start), body_of(body), point_of(point), air_of(air, pressure, temperature));
+    write(found.map(|place| [place.azimuth, place.elevation]), lent)
+}
+
+#[no_mangle]
+pub extern "C" fn raddlehue_shown_place(
+    start: &[i64; 9], body: u32, point: &[i64; 3], air: u32, pressure: f64, temperature: f64, lent: &mut [f64; 3],
+) -> u32 {
+    if body > 1 {
+        return 101;
+    }
+    if air > 2 {
+        return 102;
+    }
+    let found = shown_place(start_of(start), body_of(body), point_of(point), air_of(air, pressure, temperature));
+    write(found.map(|shown| [shown.azimuth, shown.elevation, shown.refraction]), lent)
+}
+
+// A list of nothing may come with a null pointer. The module's text is retargeted from x86-64, so lengths have 64 bits here.
+unsafe fn list<'a, T>(first: *const T, length: u64) -> &'a [T] {
+    if length == 0 {
+        &[]
+    } else {
+        unsafe { core::slice::from_raw_parts(first, length as usize) }
+    }
+}
+
+unsafe fn buffer<'a, T>(first: *mut T, length: u64) -> &'a mut [T] {
+    if length == 0 {
+        &mut []
+    } else {
+        unsafe { core::slice::from_raw_parts_mut(first, length as usize) }
+    }
+}
+
+#[no_mangle]
+pub unsafe extern "C" fn raddlehue_batch(
+    start: &[i64; 9], body: u32, point: &[i64; 3], offsets: *const u32, offsets_length: u64, azimuths: *mut i64, azimuths_length: u64,
+    elevations: *mut i64, elevations_length: u64, lent: &mut [u64; 2],
+) -> u32 {
+    if body > 1 {
+        return 101;
+    }
+    let (offsets, azimuths, elevations) =
+        unsafe { (list(offsets, offsets_length), buffer(azimuths, azimuths_length), buffer(elevations, elevations_length)) };
+    match batch(start_of(start), body_of(body), point_of(point), offsets, azimuths, elevations) {
+        Ok(count) => {
+            *lent = [0, count as u64];
+            0
+        }
+        Err((refusal, index)) => {
+            if refusal == 13 {
+                *lent = [index as u64, 0];
+            }
+            u32::from(refusal)
+        }
+    }
+}
+
+#[no_mangle]
+pub extern "C" fn raddlehue_middle(a: i64, b: i64, lent: &mut i64) -> u32 {
+    write(middle(a, b), lent)
+}
+
+#[no_mangle]
+pub extern "C" fn raddlehue_refraction(elevation: i64, air: u32, pressure: f64, temperature: f64, lent: &mut f64) -> u32 {
+    if air > 2 {
+        return 102;
+    }
+    if !(-QUARTER_TURN..=QUARTER_TURN).contains(&elevation) {
+        return 103;
+    }
+    let air = air_of(air, pressure, temperature);
+    write(check_air(&air).map(|()| refraction(elevation, air)), lent)
+}
+
+#[no_mangle]
+pub extern "C" fn raddlehue_day_count(year: i64, month: i64, day: i64, lent: &mut i64) -> u32 {
+    write(day_count(year, month, day), lent)
+}
+
+#[no_mangle]
+pub extern "C" fn raddlehue_instant(start: &[i64; 9], lent: &mut [i64; 2]) -> u32 {
+    write(Instant::new(&start_of(start)).map(|found| [found.ut, found.tt]), lent)
+}
+
+fn reached(n: i64) -> Result<i64, u8> {
+    if (-FURTHEST..=FURTHEST).contains(&n) {
+        Ok(n)
+    } else {
+        Err(104)
+    }
+}
+
+#[no_mangle]
+pub extern "C" fn raddlehue_moon_sums(tt: i64, lent: &mut [i64; 3]) -> u32 {
+    write(reached(tt).map(moon).map(|moon| [moon.longitude, moon.latitude, moon.metres]), lent)
+}
+
+#[no_mangle]
+pub extern "C" fn raddlehue_sun_sums(tt: i64, lent: &mut [i64; 3]) -> u32 {
+    write(reached(tt).map(sun).map(|sun| [sun.longitude, sun.latitude, sun.radius]), lent)
+}
+
+#[no_mangle]
+pub extern "C" fn raddlehue_nutation(tt: i64, lent: &mut [i64; 3]) -> u32 {
+    write(reached(tt).map(nutation).map(|found| [found.longitude, found.obliquity, found.true_obliquity]), lent)
+}
+
+#[no_mangle]
+pub extern "C" fn raddlehue_mean_sidereal(ut: i64, lent: &mut i64) -> u32 {
+    write(reached(ut).map(mean_sidereal), lent)
+}
+
+#[no_mangle]
+pub extern "C" fn raddlehue_sine(angle: i64) -> i64 {
+    sine(angle)
+}
+
+#[no_mangle]
+pub extern "C" fn raddlehue_cosine(angle: i64) -> i64 {
+    cosine(angle)
+}
+
+#[no_mangle]
+pub extern "C" fn raddlehue_arctangent(y: i64, x: i64) -> i64 {
+    arctangent(y, x)
+}
+
+#[no_mangle]
+pub extern "C" fn raddlehue_root(square: u64) -> u64 {
+    root(square)
+}
