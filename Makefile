@@ -82,6 +82,7 @@ install: $(LIB) $(COMMAND)
 	@echo "raddlehue $(VERSION) is installed under $(DESTDIR)$(PREFIX)"
 
 watch phone wasm:
+	$(needs_rt)
 	@ports/need $@
 	@ports/module
 	@ports/build $@
