@@ -4,14 +4,14 @@ use lib.IntN.{pos, ℤ}
 use lib.Ieee as Ieee
 use lib.Ieee.{Float}
 use Rattle.number_rules.specs.Angle.{full-turn}
-use Rattle.sky.specs.Air.{within}
+use Rattle.sky.specs.Air.{between-doubles}
 use Rattle.sky.specs.Double.{_+d_, _/d_, double}
-use Rattle.sky.specs.Refusal.{between}
+use Rattle.numbers.specs.Whole.{between}
 use Rattle.sum_rules.specs.Instant.{minus}
 
 -- at most the tolerance away; a float that is not a number is near nothing
 abbrev pub near : Float → Float → Float → Bool
-near value expected tolerance = within (Ieee.sub Ieee.binary64 expected tolerance) value (expected +d tolerance)
+near value expected tolerance = between-doubles (Ieee.sub Ieee.binary64 expected tolerance) value (expected +d tolerance)
 
 -- a whole number as a double, or no number beyond a turn
 unfoldable pub whole : ℤ → Float

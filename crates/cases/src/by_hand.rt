@@ -1,7 +1,8 @@
 // The cases that 01 asks to be run ("Cases by hand"), and requests that go the whole way.
+use super::report::compared;
 use super::report::named;
-use super::report::near;
 use super::report::write;
+use numbers::refusal::number_of;
 use sky::air::Air;
 use sky::answer::PlaceAnswer;
 use sky::answer::ShownAnswer;
@@ -9,10 +10,10 @@ use sky::answer::place;
 use sky::answer::shown_place;
 use sky::heading::Middle;
 use sky::heading::middle_azimuth;
-use sky_vectors::geocentric::Body;
-use sky_vectors::station::Point;
 use sky::request::Start;
 use sky::shown::Shown;
+use sky_vectors::geocentric::Body;
+use sky_vectors::station::Point;
 
 // The first of January at 12:00 and a second.
 fn start_at(year: i64, second: i64) -> Start {
@@ -38,61 +39,50 @@ fn point_at(latitude: i64) -> Point {
 }
 
 // 0 where the place is seen.
-fn refusal_of(start: Start, point: Point, air: Air) -> u8 {
+fn refusal_of(start: Start, point: Point, air: Air) -> i64 {
     let answer = place(start, Body::Sun, point, air);
     match answer {
         PlaceAnswer::Seen(_) => 0,
-        PlaceAnswer::Refused(n) => n,
+        PlaceAnswer::Refused(refusal) => number_of(refusal) as i64,
     }
 }
 
-fn middle_refusal(a: i64, b: i64) -> u8 {
+fn middle_refusal(a: i64, b: i64) -> i64 {
     let middle = middle_azimuth(a, b);
     match middle {
         Middle::Azimuth(_) => 0,
-        Middle::Refused(n) => n,
+        Middle::Refused(refusal) => number_of(refusal) as i64,
     }
 }
 
 pub fn run_cases() {
     let equator = point_at(0);
     let noon = start_at(2000, 0);
-    write(b"01:");
-    named(b"full-turn", middle_refusal(36_000_000_000, 0) == 15);
-    named(
-        b"second-60",
-        refusal_of(start_at(2000, 60), equator, Air::None) == 4,
-    );
-    named(
-        b"year-2101",
-        refusal_of(start_at(2101, 0), equator, Air::None) == 1,
-    );
-    named(
-        b"pole",
-        refusal_of(noon, point_at(900_000_000), Air::None) == 0,
-    );
-    named(
-        b"past-pole",
-        refusal_of(noon, point_at(900_000_001), Air::None) == 8,
+    let refusals = [
+        middle_refusal(36_000_000_000, 0),
+        refusal_of(start_at(2000, 60), equator, Air::None),
+        refusal_of(start_at(2101, 0), equator, Air::None),
+        refusal_of(noon, point_at(900_000_000), Air::None),
+        refusal_of(noon, point_at(900_000_001), Air::None),
+    ];
+    compared(
+        b"01: full-turn second-60 year-2101 pole past-pole",
+        refusals,
+        [15, 4, 1, 0, 8],
+        [0; 5],
     );
     write(b"\n");
 }
 
-// No more and no less than the other.
-fn same(a: f64, b: f64) -> bool {
-    near(a, b, 0.0)
-}
-
 // Standard air is measured air at 1010 mbar and 10 degrees.
 fn are_same(a: Shown, b: Shown) -> bool {
-    same(a.azimuth, b.azimuth) && same(a.elevation, b.elevation) && same(a.refraction, b.refraction)
+    a.azimuth == b.azimuth && a.elevation == b.elevation && a.refraction == b.refraction
 }
 
 // Air raises what is seen by the refraction, and moves it no other way.
 fn is_raised(bare: Shown, seen: Shown) -> bool {
-    let raised = bare.elevation + seen.refraction;
-    same(bare.azimuth, seen.azimuth)
-        && same(raised, seen.elevation)
+    bare.azimuth == seen.azimuth
+        && bare.elevation + seen.refraction == seen.elevation
         && bare.elevation < seen.elevation
 }
 

@@ -6,13 +6,11 @@ use numbers::sine::cosine;
 use sky::air::Air;
 use sky::answer::PlaceAnswer;
 use sky::answer::place;
-use sky_vectors::place::Place;
-use sky_vectors::geocentric::Body;
-use sky_vectors::station::Point;
 use sky::request::Start;
+use sky_vectors::geocentric::Body;
+use sky_vectors::place::Place;
+use sky_vectors::station::Point;
 use sum_rules::instant::SECOND;
-ghost use Prim.Native.Nat.{_≤_};
-ghost use lib.IntN.{natAbs};
 
 // "within the stated uncertainty of ±0.003° in the azimuth angle" (003, section 5.4.4).
 const STATED: f64 = 300_000.0;
@@ -42,24 +40,34 @@ fn is_eclipse(start: Start, point: Point) -> bool {
     are_together(a, b)
 }
 
-// A row of the table: year to second of UT, delta-T in tenths of a second, longitude and latitude in 10⁻⁴ degree.
-fn eclipse(name: &[u8], date: [i64; 6], tenths: u32, longitude: i64, latitude: i64)
-    requires { ⌜ (natAbs longitude ≤ 1_800_000) × (natAbs latitude ≤ 900_000) ⌝ }
-{
-    let start = Start {
-        year: date[0],
-        month: date[1],
-        day: date[2],
-        hour: date[3],
-        minute: date[4],
-        second: date[5],
+// UT, and delta-T in tenths of a second.
+fn start_at(
+    year: i64,
+    month: i64,
+    day: i64,
+    hour: i64,
+    minute: i64,
+    second: i64,
+    tenths: u32,
+) -> Start {
+    Start {
+        year,
+        month,
+        day,
+        hour,
+        minute,
+        second,
         fraction: 0,
         ut1: 0,
         delta: (tenths as u64 * SECOND / 10) as i64,
-    };
+    }
+}
+
+// A row of the table: the start, and longitude and latitude in 10⁻⁷ degree.
+fn eclipse(name: &[u8], start: Start, longitude: i64, latitude: i64) {
     let point = Point {
-        longitude: 1000 * longitude,
-        latitude: 1000 * latitude,
+        longitude,
+        latitude,
         height: 0,
     };
     named(name, is_eclipse(start, point));
@@ -67,12 +75,19 @@ fn eclipse(name: &[u8], date: [i64; 6], tenths: u32, longitude: i64, latitude: i
 
 pub fn table_4() {
     write(b"003 Table 4:");
-    eclipse(b"2009", [2009, 7, 22, 2, 33, 0], 664, 1_433_617, 246_117);
-    eclipse(b"2008", [2008, 8, 1, 9, 47, 18], 658, 347_417, 811_133);
-    eclipse(b"2006", [2006, 3, 29, 10, 33, 18], 649, 228_867, 296_200);
-    eclipse(b"2005", [2005, 4, 8, 20, 15, 36], 648, -1_234_817, -157_883);
-    eclipse(b"2002", [2002, 12, 4, 7, 38, 42], 644, 628_383, -405_283);
-    eclipse(b"2001", [2001, 6, 21, 11, 57, 48], 642, 9_867, -115_950);
-    eclipse(b"1981", [1981, 2, 4, 21, 57, 36], 515, -1_459_033, -458_883);
+    let start = start_at(2009, 7, 22, 2, 33, 0, 664);
+    eclipse(b"2009", start, 1_433_617_000, 246_117_000);
+    let start = start_at(2008, 8, 1, 9, 47, 18, 658);
+    eclipse(b"2008", start, 347_417_000, 811_133_000);
+    let start = start_at(2006, 3, 29, 10, 33, 18, 649);
+    eclipse(b"2006", start, 228_867_000, 296_200_000);
+    let start = start_at(2005, 4, 8, 20, 15, 36, 648);
+    eclipse(b"2005", start, -1_234_817_000, -157_883_000);
+    let start = start_at(2002, 12, 4, 7, 38, 42, 644);
+    eclipse(b"2002", start, 628_383_000, -405_283_000);
+    let start = start_at(2001, 6, 21, 11, 57, 48, 642);
+    eclipse(b"2001", start, 9_867_000, -115_950_000);
+    let start = start_at(1981, 2, 4, 21, 57, 36, 515);
+    eclipse(b"1981", start, -1_459_033_000, -458_883_000);
     write(b"\n");
 }

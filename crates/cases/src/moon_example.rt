@@ -1,22 +1,23 @@
 // 003's example (A.1): the inputs of Table A.1.1, and the results of Table A.1.2.
+use super::report::compared;
 use super::report::named;
 use super::report::near;
-use super::report::within;
 use super::report::write;
 use super::steps::moment_of;
 use super::steps::steps_to;
+use numbers::angle::Angle;
 use numbers::sine_table::table;
 use sky::air::Air;
 use sky::answer::ShownAnswer;
 use sky::answer::shown_place;
+use sky::request::Start;
 use sky_vectors::geocentric::Body;
 use sky_vectors::station::Point;
-use sky::request::Start;
 use sum_rules::instant::SECOND;
 use sums::moon::arguments;
 use sums::moon::moon_at;
 ghost use mathlib.Core.Path.{_≡_};
-ghost use Rattle.sky.specs.Refusal.{first};
+ghost use Rattle.numbers.specs.Refusal.{first};
 ghost use Rattle.sky.specs.Request.{start-refusals, point-refusals};
 
 const DELTA: i64 = (664 * SECOND / 10) as i64;
@@ -47,24 +48,33 @@ fn site() -> Point
     }
 }
 
-// L' 118.2130333, D 358.2658977, M 196.845702 and M' 6.110197 degrees, to one of the last printed digit.
+// L' 118.2130333, D 358.2658977, M 196.845702 and M' 6.110197 degrees, to one of the last printed digit. F is not printed.
 fn mean_arguments() {
-    let mean = arguments(moment_of(start()).tt);
-    named(b"L'", within(mean[0], 11_821_303_330, 10));
-    named(b"D", within(mean[1], 35_826_589_770, 10));
-    named(b"M", within(mean[2], 19_684_570_200, 100));
-    named(b"M'", within(mean[3], 611_019_700, 100));
+    compared(
+        b" L' D M M'",
+        arguments(moment_of(start()).tt),
+        [
+            11_821_303_330,
+            35_826_589_770,
+            19_684_570_200,
+            611_019_700,
+            0,
+        ],
+        [10, 10, 100, 100, Angle::FULL as i64],
+    );
 }
 
 // λ 118.7934477 and β 0.131573 degrees, Δ 357514.1221 km. The report's sums are exact and 01's are of whole numbers, apart by at most
 // 500 units and 10 metres ("Bounds for demand 3").
 fn centre() {
     let moon = moon_at(&table(), moment_of(start()).tt);
-    let steps = steps_to(Body::Moon, start(), site());
-    let body = steps.centre;
-    named(b"lambda", within(body.longitude, 11_879_344_770, 500));
-    named(b"beta", within(body.latitude, 13_157_300, 500));
-    named(b"Delta", within(moon.metres, 357_514_122, 10));
+    let body = steps_to(Body::Moon, start(), site()).centre;
+    compared(
+        b" lambda beta Delta",
+        [body.longitude, body.latitude, moon.metres, 0, 0],
+        [11_879_344_770, 13_157_300, 357_514_122, 0, 0],
+        [500, 500, 10, 0, 0],
+    );
 }
 
 // "zenith angle with uncertainty of ±0.001° and azimuth angle with uncertainty of ±0.003°" (003, abstract).

@@ -1,6 +1,6 @@
 // How a value is compared with a printed one, and what is written of it.
 use numbers::angle::Angle;
-use sky::request::is_between;
+use numbers::whole::is_between;
 ghost use mathlib.Core.Path.{_≡_};
 ghost use Rattle.cases.specs.Compare.{near, whole};
 
@@ -41,5 +41,18 @@ pub fn named(name: &[u8], holds: bool) {
     write(name);
     if !holds {
         write(b" DEVIATES");
+    }
+}
+
+// The names of values in whole units, up to five; the rest are zeros. Each that does not come out is told by its number.
+pub fn compared(names: &[u8], values: [i64; 5], expected: [i64; 5], tolerances: [i64; 5]) {
+    write(names);
+    let mut row = 0;
+    while row < 5 {
+        if !within(values[row], expected[row], tolerances[row]) {
+            write(b" DEVIATES:");
+            io::print_decimal(1, row as u64 + 1);
+        }
+        row += 1;
     }
 }

@@ -1,14 +1,14 @@
 // The values that the reports print between an instant and a place.
 use numbers::angle::Angle;
 use numbers::sine_table::table;
+use sky::request::Start;
+use sky::request::instant_of;
+use sky_vectors::geocentric::Body;
 use sky_vectors::geocentric::Geocentric;
 use sky_vectors::geocentric::geocentric_at;
 use sky_vectors::place::Place;
 use sky_vectors::place::place_of;
-use sky_vectors::geocentric::Body;
 use sky_vectors::station::Point;
-use sky::request::Start;
-use sky::request::instant_of;
 use sky_vectors::station::Station;
 use sky_vectors::station::station_at;
 use sum_rules::instant::Powers;
@@ -16,7 +16,7 @@ use sums::instant::powers_at;
 use sums::nutation::Nutation;
 use sums::nutation::nutation_at;
 ghost use mathlib.Core.Path.{_≡_};
-ghost use Rattle.sky.specs.Refusal.{first};
+ghost use Rattle.numbers.specs.Refusal.{first};
 ghost use Rattle.sky.specs.Request.{instant, start-refusals, point-refusals};
 ghost use Rattle.sky_vectors.specs.Geocentric.{geocentric};
 ghost use Rattle.sky_vectors.specs.Station.{station};

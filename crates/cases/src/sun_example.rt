@@ -1,9 +1,8 @@
 // 004's example (A.5): the site of its list, and the results of Table A5.1.
+use super::report::compared;
 use super::report::named;
 use super::report::near;
-use super::report::within;
 use super::report::write;
-use super::steps::Steps;
 use super::steps::from_south_pole;
 use super::steps::moment_of;
 use super::steps::steps_to;
@@ -11,16 +10,17 @@ use numbers::sine_table::table;
 use sky::air::Air;
 use sky::answer::ShownAnswer;
 use sky::answer::shown_place;
-use sky_vectors::geocentric::Geocentric;
-use sky_vectors::geocentric::Body;
-use sky_vectors::station::Point;
 use sky::request::Start;
+use sky_vectors::geocentric::Body;
+use sky_vectors::geocentric::Geocentric;
+use sky_vectors::station::Point;
 use sky_vectors::station::Station;
 use sum_rules::instant::SECOND;
+use sums::nutation::Nutation;
 use sums::sun::longitude_degrees;
 use sums::sun::sun_at;
 ghost use mathlib.Core.Path.{_≡_};
-ghost use Rattle.sky.specs.Refusal.{first};
+ghost use Rattle.numbers.specs.Refusal.{first};
 ghost use Rattle.sky.specs.Request.{start-refusals, point-refusals};
 
 const DELTA: i64 = (67 * SECOND) as i64;
@@ -67,27 +67,28 @@ const TURN_LESS_H: i64 = 36_000_000_000 - 1_110_590_000;
 // L 24.0182616917 degrees, R 0.9965422974 AU.
 fn sums() {
     let earth = sun_at(&table(), moment_of(start()).tt);
-    let degrees = longitude_degrees(earth.longitude);
-    named(b"L", within(degrees, 2_401_826_169, LONGITUDE_BOUND));
-    named(b"R", within(earth.radius, 9_965_422_974, RADIUS_BOUND));
-}
-
-// β 0.0001011219 and λ 204.0085519281 degrees.
-fn centre(body: Geocentric) {
-    named(b"beta", within(body.latitude, 10_112, LATITUDE_BOUND));
-    named(
-        b"lambda",
-        within(body.longitude, 20_400_855_193, LONGITUDE_BOUND),
+    compared(
+        b" L R",
+        [longitude_degrees(earth.longitude), earth.radius, 0, 0, 0],
+        [2_401_826_169, 9_965_422_974, 0, 0, 0],
+        [LONGITUDE_BOUND, RADIUS_BOUND, 0, 0, 0],
     );
 }
 
-// Δψ -0.00399840, Δε 0.00166657 and ε 23.440465 degrees, to one of the last printed digit.
-fn nutation(steps: Steps) {
-    let nutation = steps.nutation;
-    let station = steps.station;
-    named(b"dpsi", within(nutation.longitude, -399_840, 1));
-    named(b"deps", within(nutation.obliquity, 166_657, 1));
-    named(b"epsilon", within(station.obliquity, 2_344_046_500, 100));
+// β 0.0001011219 and λ 204.0085519281 degrees; Δψ -0.00399840, Δε 0.00166657 and ε 23.440465 degrees, to one of the last printed digit.
+fn centre(body: Geocentric, nutation: Nutation, station: Station) {
+    compared(
+        b" beta lambda dpsi deps epsilon",
+        [
+            body.latitude,
+            body.longitude,
+            nutation.longitude,
+            nutation.obliquity,
+            station.obliquity,
+        ],
+        [10_112, 20_400_855_193, -399_840, 166_657, 2_344_046_500],
+        [LATITUDE_BOUND, LONGITUDE_BOUND, 1, 1, 100],
+    );
 }
 
 // α 202.22741, δ -9.31434 and H 11.105900 degrees, to one of the last digit of α: H is ν + σ - α, and no finer. H + α is 213.33331.
@@ -95,10 +96,18 @@ fn equator(body: Geocentric, station: Station) {
     let obliquity = station.obliquity;
     let fixed = from_south_pole(body, obliquity, 0);
     let turned = from_south_pole(body, obliquity, station.sidereal);
-    named(b"nu+sigma", within(station.sidereal, 21_333_331_000, 1000));
-    named(b"alpha", within(fixed.azimuth, 20_222_741_000, 1000));
-    named(b"delta", within(fixed.elevation, 931_434_000, 1000));
-    named(b"H", within(turned.azimuth, TURN_LESS_H, 1000));
+    compared(
+        b" nu+sigma alpha delta H",
+        [
+            station.sidereal,
+            fixed.azimuth,
+            fixed.elevation,
+            turned.azimuth,
+            0,
+        ],
+        [21_333_331_000, 20_222_741_000, 931_434_000, TURN_LESS_H, 0],
+        [1000; 5],
+    );
 }
 
 // Zenith and azimuth angles "with uncertainties of ±0.0003°" (004, abstract). The table's H' and δ' put the Sun 39.87204 degrees high,
@@ -119,8 +128,7 @@ pub fn table_a5_1() {
     let steps = steps_to(Body::Sun, start(), site());
     write(b"004 Table A5.1:");
     sums();
-    centre(steps.centre);
-    nutation(steps);
+    centre(steps.centre, steps.nutation, steps.station);
     equator(steps.centre, steps.station);
     place();
     write(b"\n");

@@ -1,2 +1,3 @@
+pub mod PrintedLaws
 pub mod SheetLaws
 pub mod PlacesLineLaws

@@ -13,8 +13,9 @@ use Rattle.text.specs.Cases.{bytes}
 use Rattle.text.specs.Decimal.{decimals}
 use Rattle.text.specs.Line.{answer, begins, short-numbers, space}
 use Rattle.sky.specs.Answer.{Answer, place}
-use Rattle.line_answers.specs.PlacesLine.{body-answer, no-request, place-from, place-line, places-answer, point-from}
-use Rattle.line_answers.specs.Sheet.{newline, start-from}
+use Rattle.line_answers.specs.PlacesLine.{body-answer, longest-request, no-request, place-from, place-line, places-answer, point-from}
+use Rattle.line_answers.specs.Printed.{newline}
+use Rattle.line_answers.specs.Sheet.{start-from}
 use Rattle.sky.specs.declared.air.Air.the-variants as Airs
 use Rattle.sky_vectors.specs.declared.place.Place.{Place}
 use Rattle.sky_vectors.specs.declared.geocentric.Body.{Body}
@@ -60,8 +61,7 @@ module _ (line : List ℕ) where
       any true = refl
       any false = refl
 
-  -- 148 bytes: the longest body and its space, and twelve numbers
-  pub too-long : 148 < length line → places-answer line ≡ no-request
+  pub too-long : longest-request < length line → places-answer line ≡ no-request
   unfolding places-answer
   too-long h =
       let sun = begins (bytes "sun ") line in

@@ -2,18 +2,23 @@
 use mathlib.Core.Bool.{false, true}
 use mathlib.Core.List.{List, [], _∷_, _++_, append-assoc}
 use mathlib.Core.Option.{Option, none, some}
-use mathlib.Core.Path.{_∙_, _≡_, ap, refl, subst, subst⁻¹}
+use mathlib.Core.Path.{_≡_, ap, refl, subst, subst⁻¹, sym}
 use Prim.Native.Nat.{_-_, suc, zero, ℕ}
 use lib.Dec.{T}
 use lib.IntN.{pos, ℤ}
 use lib.ListN.{length, replicate}
 use Rattle.sum_rules.specs.Table.{column}
-use Rattle.text.specs.Decimal.{Appended, decimal, written}
+use Rattle.numbers.proofs.RefusalLaws.{never-none, number-tells, one-answer}
+use Rattle.numbers.specs.Refusal.{OneAnswer}
+use Rattle.text.specs.Decimal.{decimal}
 use Rattle.text.specs.Line.{answer, space}
 use Rattle.text.specs.RoundTrip.{printed}
-use Rattle.text.specs.declared.decimal.Text.{Text}
+use Rattle.sky.specs.Answer.{Answer}
 use Rattle.line_answers.specs.declared.sheet.Arguments.{Arguments}
-use Rattle.line_answers.specs.Sheet.{arguments-line, newline, no-arguments, row-from, start-from, start-row}
+use Rattle.line_answers.specs.declared.sheet.Row.{Row}
+use Rattle.line_answers.specs.declared.sheet.Row.the-variants as Rows
+use Rattle.line_answers.specs.Printed.{newline}
+use Rattle.line_answers.specs.Sheet.{arguments-line, no-arguments, row-answer, row-from, start-from, start-row}
 
 -- zeros at the end of a row change no column
 zeros-column : (n k : ℕ) → column (replicate n (pos 0)) k ≡ pos 0
@@ -51,10 +56,14 @@ unfolding answer row-from
 was-read none e = absurd (subst⁻¹ T e tt)
 was-read (some list) e = ap start-row (padded-start list (12 - length list))
 
--- ---- texts
+row-tells : (x y : Row) → row-answer x ≡ row-answer y → x ≡ y
+row-tells (Rows.Accepted p) (Rows.Accepted q) same = ap (λ (a : Answer Arguments). Rows.Accepted (a .value)) same
+row-tells (Rows.Accepted p) (Rows.Refused r) same = absurd (never-none r (sym (ap (λ (a : Answer Arguments). a .refusal) same)))
+row-tells (Rows.Refused r) (Rows.Accepted p) same = absurd (never-none r (ap (λ (a : Answer Arguments). a .refusal) same))
+row-tells (Rows.Refused r) (Rows.Refused s) same = ap Rows.Refused (number-tells r s (ap (λ (a : Answer Arguments). a .refusal) same))
 
-pub from-empty : {text next : Text} {added : List ℕ} → text ≡ record { bytes = replicate 80 0; length = 0 } → Appended text added next → written next ≡ added
-from-empty {added} e a = a .in-use ∙ ap (λ (t : Text). written t ++ added) e
+pub one-row : {found : Row} {rule : Answer Arguments} → row-answer found ≡ rule → OneAnswer row-answer rule found
+one-row = one-answer row-tells
 
 -- three numbers, each with the byte after it
 abbrev pub fields : ℤ → ℤ → ℤ → List ℕ

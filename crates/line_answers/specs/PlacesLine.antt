@@ -2,8 +2,7 @@
 use mathlib.Core.Bool.{cond}
 use mathlib.Core.List.{List, [], _∷_, _++_}
 use mathlib.Core.Option.{Option, none, some}
-use Prim.Native.Nat.{ℕ}
-use lib.Dec.{eqb}
+use Prim.Native.Nat.{ℕ, _*_, _+_}
 use lib.IntN.{ℤ}
 use lib.ListN.{drop}
 use Rattle.sum_rules.specs.Table.{column}
@@ -11,7 +10,8 @@ use Rattle.text.specs.Cases.{bytes}
 use Rattle.text.specs.Decimal.{decimals}
 use Rattle.text.specs.Line.{begins, line-numbers, short-numbers, space}
 use Rattle.sky.specs.Answer.{Answer, nowhere, place}
-use Rattle.line_answers.specs.Sheet.{newline, refusal-line, start-from}
+use Rattle.line_answers.specs.Printed.{answer-line, newline}
+use Rattle.line_answers.specs.Sheet.{start-from}
 use Rattle.sky.specs.declared.air.Air.the-variants as Airs
 use Rattle.sky_vectors.specs.declared.place.Place.{Place}
 use Rattle.sky_vectors.specs.declared.geocentric.Body.{Body}
@@ -35,10 +35,15 @@ place-from body (some numbers) = place (start-from numbers) body (point-from num
 unfoldable pub body-answer : Body → List ℕ → Answer Place
 body-answer body words = cond (short-numbers 9 words) (place-from body (line-numbers 12 10 words)) no-request
 
+-- `sun` or `moon`, then the numbers
 unfoldable pub places-answer : List ℕ → Answer Place
 places-answer line =
     cond (begins (bytes "sun ") line) (body-answer Bodies.Sun (drop 4 line))
     (cond (begins (bytes "moon ") line) (body-answer Bodies.Moon (drop 5 line)) no-request)
+
+-- no request is longer: a body and its space, twelve numbers of a sign and ten digits, and the spaces between these
+abbrev pub longest-request : ℕ
+longest-request = 5 + (12 * 11 + 11)
 
 -- ---- what is printed
 
@@ -46,8 +51,6 @@ places-answer line =
 unfoldable pub place-line : Place → List ℕ
 place-line seen = decimals (seen .azimuth) ++ space ∷ decimals (seen .elevation) ++ newline ∷ []
 
-unfoldable pub answer-line : Answer Place → List ℕ
-answer-line answer = cond (eqb (answer .refusal) 0) (place-line (answer .value)) (refusal-line (answer .refusal))
-
+-- what is printed for a line
 unfoldable pub places-line : List ℕ → List ℕ
-places-line line = answer-line (places-answer line)
+places-line line = answer-line place-line (places-answer line)

@@ -1,23 +1,20 @@
 -- The argument sheet (01, the section of that name): the answer to a line, and what is printed for it.
-use mathlib.Core.Bool.{cond}
 use mathlib.Core.List.{List, [], _∷_, _++_}
 use mathlib.Core.Option.{Option, none, some}
-use Prim.Native.Nat.{ℕ, _<_}
-use lib.Dec.{eqb}
+use Prim.Native.Nat.{ℕ}
 use lib.IntN.{ℤ, pos}
 use Rattle.sum_rules.specs.Moon.{argument}
 use Rattle.sum_rules.specs.MoonTerms.{L′}
 use Rattle.sum_rules.specs.Sidereal.{mean}
 use Rattle.sum_rules.specs.Table.{column}
 use Rattle.sum_rules.specs.declared.instant.Instant.{Instant}
-use Rattle.text.specs.Cases.{bytes}
-use Rattle.text.specs.Decimal.{decimal}
 use Rattle.text.specs.Line.{sheet-numbers}
 use Rattle.text.specs.RoundTrip.{printed}
+use Rattle.numbers.specs.Refusal.{first, number}
 use Rattle.sky.specs.Answer.{Answer, judged}
-use Rattle.sky.specs.Refusal.{first}
 use Rattle.sky.specs.Request.{instant, start-refusals}
 use Rattle.sky.specs.declared.request.Start.{Start}
+use Rattle.line_answers.specs.Printed.{answer-line, newline}
 use Rattle.line_answers.specs.declared.sheet.Arguments.{Arguments}
 use Rattle.line_answers.specs.declared.sheet.Row.{Row}
 use Rattle.line_answers.specs.declared.sheet.Row.the-variants as Rows
@@ -39,14 +36,16 @@ start-from numbers =
 
 -- TT, L' and mean sidereal
 unfoldable pub arguments : Instant → Arguments
-arguments i = record { tt = i .tt; longitude = argument L′ (i .tt); sidereal = pos (mean (i .ut)) }
+arguments moment = record { tt = moment .tt; longitude = argument L′ (moment .tt); sidereal = pos (mean (moment .ut)) }
 
+-- zeros, where refused
 abbrev pub no-arguments : Arguments
 no-arguments = record { tt = pos 0; longitude = pos 0; sidereal = pos 0 }
 
+-- the answer in 01's numbers
 abbrev pub row-answer : Row → Answer Arguments
 row-answer (Rows.Accepted found) = record { refusal = 0; value = found }
-row-answer (Rows.Refused n) = record { refusal = n; value = no-arguments }
+row-answer (Rows.Refused refusal) = record { refusal = number refusal; value = no-arguments }
 
 -- the first of 1 to 6, otherwise the arguments
 unfoldable pub start-row : Start → Answer Arguments
@@ -57,27 +56,16 @@ unfoldable pub row-from : Option (List ℤ) → Answer Arguments
 row-from none = record { refusal = 16; value = no-arguments }
 row-from (some numbers) = start-row (start-from numbers)
 
+-- the answer to a line
 unfoldable pub sheet-row : List ℕ → Answer Arguments
 sheet-row line = row-from (sheet-numbers line)
 
 -- ---- what is printed
 
-abbrev pub newline : ℕ
-newline = 10
-
+-- the three numbers with single spaces
 unfoldable pub arguments-line : Arguments → List ℕ
 arguments-line found = printed (found .tt) (found .longitude ∷ found .sidereal ∷ []) ++ newline ∷ []
 
-unfoldable pub refusal-line : ℕ → List ℕ
-refusal-line n = bytes "refused " ++ decimal (pos n) ++ newline ∷ []
-
-unfoldable pub row-line : Answer Arguments → List ℕ
-row-line answer = cond (eqb (answer .refusal) 0) (arguments-line (answer .value)) (refusal-line (answer .refusal))
-
+-- what is printed for a line
 unfoldable pub sheet-line : List ℕ → List ℕ
-sheet-line line = row-line (sheet-row line)
-
--- a refused row has a number, by which its answer is told from an accepted one
-abbrev pub Numbered : Row → Type 0
-Numbered (Rows.Accepted found) = 0 < 1
-Numbered (Rows.Refused n) = 0 < n
+sheet-line line = answer-line arguments-line (sheet-row line)

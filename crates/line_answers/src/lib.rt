@@ -1,3 +1,4 @@
 // The answer to one line, and what is printed for it: the argument sheet's, and that of `places`.
-pub mod sheet;
 pub mod places_line;
+mod refused;
+pub mod sheet;

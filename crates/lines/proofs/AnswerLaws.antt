@@ -1,4 +1,6 @@
--- An input that is read in parts is answered as the whole of it, and 149 bytes of a line are enough.
+-- An input that is read in parts is answered as the whole of it, and the bytes of a line that are held are enough.
+-- What is printed and the line that is left go byte by byte, so they split wherever the input is cut.
+-- A line that is longer than what is held is refused, and so is what is held of it: both have the same answer, whatever byte comes next.
 use mathlib.Core.Bool.{Bool, cond, false, true}
 use mathlib.Core.List.{List, [], _∷_, _++_, append-assoc, append-nil}
 use mathlib.Core.Option.{Option, none}
@@ -13,9 +15,10 @@ use lib.Seq.{length-take-le, take-all, take-append-le, take-at}
 use borrow.Author.Tests.{eq-eqb, leb-false, leb-true, ne-eqb}
 use Rattle.text.proofs.LineLaws.{too-long-line}
 use Rattle.line_answers.proofs.PlacesLineLaws.{too-long}
-use Rattle.line_answers.specs.PlacesLine.{answer-line, no-request, places-line}
-use Rattle.line_answers.specs.Sheet.{newline, row-from, row-line, sheet-line, sheet-row}
-use Rattle.lines.specs.Lines.{Answered, Stepped, answers, kept, last-answer, left, line-after, line-answer, printed-at}
+use Rattle.line_answers.specs.PlacesLine.{no-request, place-line, places-line}
+use Rattle.line_answers.specs.Printed.{answer-line, newline}
+use Rattle.line_answers.specs.Sheet.{arguments-line, row-from, sheet-line, sheet-row}
+use Rattle.lines.specs.Lines.{Answered, Stepped, answers, kept, last-answer, left, line-after, line-answer, line-room, printed-at}
 use Rattle.lines.specs.declared.answers.Turn.{Turn}
 use Rattle.lines.specs.declared.line.Form.{Form}
 use Rattle.lines.specs.declared.line.Form.the-variants as Forms
@@ -54,36 +57,36 @@ module _ (form : Form) (line : List ℕ) {byte : ℕ} where
   unfolding printed-at line-after
   at-other isn't = (simp (ne-eqb byte newline isn't), simp (ne-eqb byte newline isn't))
 
--- ---- 149 bytes
+-- ---- a line that is longer than what is held of it
 
 -- what holds of a short line and of a long one
-by-length : (line : List ℕ) {P : Type 0} → (length line ≤ 149 → P) → (149 < length line → P) → P
-by-length line {P} short long = by-test (leb (length line) 149) refl
+by-length : (line : List ℕ) {P : Type 0} → (length line ≤ line-room → P) → (line-room < length line → P) → P
+by-length line {P} short long = by-test (leb (length line) line-room) refl
   where
-    by-test : (b : Bool) → leb (length line) 149 ≡ b → P
-    by-test true e = short (leb-true (length line) 149 e)
-    by-test false e = long (leb-false (length line) 149 e)
+    by-test : (b : Bool) → leb (length line) line-room ≡ b → P
+    by-test true e = short (leb-true (length line) line-room e)
+    by-test false e = long (leb-false (length line) line-room e)
 
-kept-length : (line : List ℕ) → 149 < length line → length (kept line) ≡ 149
-kept-length line h = length-take-le 149 line (omega arith)
+kept-length : (line : List ℕ) → line-room < length line → length (kept line) ≡ line-room
+kept-length line h = length-take-le line-room line (omega arith)
 
 -- all lines that are too long have the same answer
-long-sheet : (line : List ℕ) → 148 < length line → sheet-line line ≡ row-line (row-from none)
+long-sheet : (line : List ℕ) → line-room ≤ length line → sheet-line line ≡ answer-line arguments-line (row-from none)
 unfolding sheet-line sheet-row
-long-sheet line h = ap (λ (numbers : Option (List ℤ)). row-line (row-from numbers)) (too-long-line line (omega arith))
+long-sheet line h = ap (λ (numbers : Option (List ℤ)). answer-line arguments-line (row-from numbers)) (too-long-line line (omega arith))
 
-long-places : (line : List ℕ) → 148 < length line → places-line line ≡ answer-line no-request
+long-places : (line : List ℕ) → line-room ≤ length line → places-line line ≡ answer-line place-line no-request
 unfolding places-line
-long-places line h = ap answer-line (too-long line h)
+long-places line h = ap (answer-line place-line) (too-long line h)
 
-module _ (line : List ℕ) (long : 149 < length line) where
+module _ (line : List ℕ) (long : line-room < length line) where
   kept-long : (form : Form) → line-answer form (kept line) ≡ line-answer form line
   unfolding line-answer
   kept-long Forms.Sheet = long-sheet (kept line) (omega (arith, kept-length line long)) ∙ sym (long-sheet line (omega arith))
   kept-long Forms.Places = long-places (kept line) (omega (arith, kept-length line long)) ∙ sym (long-places line (omega arith))
 
 kept-line : (form : Form) (line : List ℕ) → line-answer form (kept line) ≡ line-answer form line
-kept-line form line = by-length line (λ short. ap (line-answer form) (take-all 149 line short)) (λ long. kept-long line long form)
+kept-line form line = by-length line (λ short. ap (line-answer form) (take-all line-room line short)) (λ long. kept-long line long form)
 
 kept-printed : (form : Form) (line : List ℕ) (byte : ℕ) → printed-at form (kept line) byte ≡ printed-at form line byte
 unfolding printed-at
@@ -91,8 +94,8 @@ kept-printed form line byte = ap (λ (answer : List ℕ). cond (eqb byte newline
 
 kept-longer : (line : List ℕ) (byte : ℕ) → kept (kept line ++ byte ∷ []) ≡ kept (line ++ byte ∷ [])
 kept-longer line byte =
-    by-length line (λ short. ap (λ (l : List ℕ). kept (l ++ byte ∷ [])) (take-all 149 line short))
-    (λ long. take-at (kept line) (byte ∷ []) 149 (kept-length line long) ∙ sym (take-append-le 149 line (byte ∷ []) (omega arith)))
+    by-length line (λ short. ap (λ (l : List ℕ). kept (l ++ byte ∷ [])) (take-all line-room line short))
+    (λ long. take-at (kept line) (byte ∷ []) line-room (kept-length line long) ∙ sym (take-append-le line-room line (byte ∷ []) (omega arith)))
 
 kept-after : (line : List ℕ) (byte : ℕ) → kept (line-after (kept line) byte) ≡ kept (line-after line byte)
 unfolding line-after
@@ -115,7 +118,7 @@ module _ (form : Form) where
 
 -- ---- what the program does
 
-pub answered-none : (form : Form) (line : Line) (out : List ℕ) → line .length ≤ 149 → Answered form line [] out (record { line = line; used = 0 })
+pub answered-none : (form : Form) (line : Line) (out : List ℕ) → line .length ≤ line-room → Answered form line [] out (record { line = line; used = 0 })
 unfolding answers left
 answered-none form line out h = record { line-within = h; used-within = omega arith; printed = λ whole e. refl; line = λ whole e. e }
 

@@ -6,8 +6,10 @@ use Prim.Native.Nat.{ℕ, _*_, _+_, _≤_}
 use lib.Dec.{eqb}
 use lib.ListN.{length, take}
 use Rattle.text.specs.Cases.{bytes}
-use Rattle.line_answers.specs.PlacesLine.{places-line}
-use Rattle.line_answers.specs.Sheet.{newline, sheet-line}
+use Rattle.text.specs.Decimal.{text-room}
+use Rattle.line_answers.specs.PlacesLine.{longest-request, places-line}
+use Rattle.line_answers.specs.Printed.{newline}
+use Rattle.line_answers.specs.Sheet.{sheet-line}
 use Rattle.lines.specs.declared.answers.Turn.{Turn}
 use Rattle.lines.specs.declared.line.Form.{Form}
 use Rattle.lines.specs.declared.line.Form.the-variants as Forms
@@ -49,29 +51,32 @@ output form input = header form ++ answers form [] input ++ last-answer form (le
 
 -- ---- what the program holds of a line
 
--- a line of 149 bytes is refused, whatever follows
+-- the bytes of a line that are held: a line that fills them is refused, whatever follows
+abbrev pub line-room : ℕ
+line-room = longest-request + 1
+
 abbrev pub kept : List ℕ → List ℕ
-kept line = take 149 line
+kept line = take line-room line
 
 abbrev pub held : Line → List ℕ
 held line = take (line .length) (line .bytes)
 
 -- one byte: the answer stands behind the bytes in use
 pub record Stepped (form : Form) (turn : Turn) (byte : ℕ) (entry exit : List ℕ) (next : Turn) : Type 0 where
-  pub line-within : next .line .length ≤ 149
-  pub used-within : next .used ≤ turn .used + 80
+  pub line-within : next .line .length ≤ line-room
+  pub used-within : next .used ≤ turn .used + text-room
   pub same-room : length exit ≡ length entry
   pub printed : take (next .used) exit ≡ take (turn .used) entry ++ printed-at form (held (turn .line)) byte
   pub line : held (next .line) ≡ kept (line-after (held (turn .line)) byte)
 
 -- a part of the input, whatever stood before it on its first line
 pub record Answered (form : Form) (before : Line) (chunk out : List ℕ) (next : Turn) : Type 0 where
-  pub line-within : next .line .length ≤ 149
-  pub used-within : next .used ≤ 80 * length chunk
+  pub line-within : next .line .length ≤ line-room
+  pub used-within : next .used ≤ text-room * length chunk
   pub printed : (whole : List ℕ) → held before ≡ kept whole → take (next .used) out ≡ answers form whole chunk
   pub line : (whole : List ℕ) → held before ≡ kept whole → held (next .line) ≡ kept (left whole chunk)
 
 -- the end of the input
 pub record Ended (form : Form) (before : Line) (out : List ℕ) (used : ℕ) : Type 0 where
-  pub used-within : used ≤ 80
+  pub used-within : used ≤ text-room
   pub printed : (whole : List ℕ) → held before ≡ kept whole → take used out ≡ last-answer form whole

@@ -9,8 +9,8 @@ ghost use mathlib.Core.List.{_++_};
 ghost use mathlib.Core.Path.{_≡_};
 ghost use Prim.Native.Nat.{_*_, _+_, _≤_};
 ghost use lib.ListN.{length, take};
-ghost use Rattle.text.specs.Decimal.{written};
-ghost use Rattle.lines.specs.Lines.{Answered, Ended, Stepped};
+ghost use Rattle.text.specs.Decimal.{text-room, written};
+ghost use Rattle.lines.specs.Lines.{Answered, Ended, Stepped, line-room};
 
 // The line so far, and how many bytes of the buffer are in use.
 pub struct Turn {
@@ -20,7 +20,7 @@ pub struct Turn {
 
 // Stores a text from a place of the buffer on, and gives the place after it.
 fn put(text: Text, out: &mut [u8], start: usize) -> usize
-    requires { ⌜ (text .length ≤ 80) × (start + 80 ≤ length (now out)) ⌝ }
+    requires { ⌜ (text .length ≤ text-room) × (start + text-room ≤ length (now out)) ⌝ }
     ensures { λ r. ⌜ (r ≡ start + text .length) × (take r (now (out .exit)) ≡ take start (now (out .entry)) ++ written text) ⌝ }
     ensures { λ _. ⌜ length (now (out .exit)) ≡ length (now (out .entry)) ⌝ }
 {
@@ -36,7 +36,7 @@ fn put(text: Text, out: &mut [u8], start: usize) -> usize
 
 // One byte of the input: a newline ends the line.
 fn step(form: Form, turn: Turn, byte: u8, out: &mut [u8]) -> Turn
-    requires { ⌜ (turn .line .length ≤ 149) × (turn .used + 80 ≤ length (now out)) ⌝ }
+    requires { ⌜ (turn .line .length ≤ line-room) × (turn .used + text-room ≤ length (now out)) ⌝ }
     ensures { λ r. ⌜ Stepped form turn byte (now (out .entry)) (now (out .exit)) r ⌝ }
 {
     let line = turn.line;
@@ -54,9 +54,9 @@ fn step(form: Form, turn: Turn, byte: u8, out: &mut [u8]) -> Turn
     }
 }
 
-// A part of the input; 80 bytes for each byte of it are enough.
+// A part of the input; room for an answer to each byte of it is enough.
 pub fn answer_chunk(form: Form, line: Line, chunk: &[u8], out: &mut [u8]) -> Turn
-    requires { ⌜ (line .length ≤ 149) × (80 * length (now chunk) ≤ length (now out)) ⌝ }
+    requires { ⌜ (line .length ≤ line-room) × (text-room * length (now chunk) ≤ length (now out)) ⌝ }
     ensures { λ r. ⌜ Answered form line (now (chunk .entry)) (now (out .exit)) r ⌝ }
 {
     let mut turn = Turn { line, used: 0 };
@@ -70,7 +70,7 @@ pub fn answer_chunk(form: Form, line: Line, chunk: &[u8], out: &mut [u8]) -> Tur
 
 // At the end of the input a line without a newline is answered too.
 pub fn answer_last(form: Form, line: Line, out: &mut [u8]) -> usize
-    requires { ⌜ (line .length ≤ 149) × (80 ≤ length (now out)) ⌝ }
+    requires { ⌜ (line .length ≤ line-room) × (text-room ≤ length (now out)) ⌝ }
     ensures { λ r. ⌜ Ended form line (now (out .exit)) r ⌝ }
 {
     let length = line.length;

@@ -7,8 +7,8 @@ use text::decimal::empty;
 ghost use mathlib.Core.List.{[], _∷_, _++_};
 ghost use mathlib.Core.Path.{_≡_};
 ghost use Prim.Native.Nat.{_≤_};
-ghost use Rattle.text.specs.Decimal.{written};
-ghost use Rattle.lines.specs.Lines.{header, held, kept, line-answer};
+ghost use Rattle.text.specs.Decimal.{text-room, written};
+ghost use Rattle.lines.specs.Lines.{header, held, kept, line-answer, line-room};
 
 // The program that the line is read for.
 pub enum Form {
@@ -16,28 +16,31 @@ pub enum Form {
     Places,
 }
 
-// The line's first 149 bytes, which are enough to refuse it, and how many of them there are.
+// The bytes of a line that are held, enough to refuse a longer one; `line-room` of the specs.
+const LINE_ROOM: usize = 149;
+
+// The first bytes of a line, and how many of them there are.
 pub struct Line {
-    pub bytes: [u8; 149],
+    pub bytes: [u8; LINE_ROOM],
     pub length: usize,
 }
 
 pub fn no_line() -> Line
-    ensures { λ r. ⌜ (r .length ≤ 149) × (held r ≡ []) ⌝ }
+    ensures { λ r. ⌜ (r .length ≤ line-room) × (held r ≡ []) ⌝ }
 {
     Line {
-        bytes: [0; 149],
+        bytes: [0; LINE_ROOM],
         length: 0,
     }
 }
 
 // The line with one byte more.
 pub fn longer(line: Line, byte: u8) -> Line
-    requires { ⌜ line .length ≤ 149 ⌝ }
-    ensures { λ r. ⌜ (r .length ≤ 149) × (held r ≡ kept (held line ++ byte ∷ [])) ⌝ }
+    requires { ⌜ line .length ≤ line-room ⌝ }
+    ensures { λ r. ⌜ (r .length ≤ line-room) × (held r ≡ kept (held line ++ byte ∷ [])) ⌝ }
 {
     let at = line.length;
-    if at >= 149 {
+    if at >= LINE_ROOM {
         return line;
     }
     let mut next = line;
@@ -47,7 +50,7 @@ pub fn longer(line: Line, byte: u8) -> Line
 }
 
 fn line_answer(form: Form, line: &[u8]) -> Text
-    ensures { λ r. ⌜ (r .length ≤ 80) × (written r ≡ line-answer form (now (line .entry))) ⌝ }
+    ensures { λ r. ⌜ (r .length ≤ text-room) × (written r ≡ line-answer form (now (line .entry))) ⌝ }
 {
     match form {
         Form::Sheet => sheet_line(line),
@@ -57,8 +60,8 @@ fn line_answer(form: Form, line: &[u8]) -> Text
 
 // What is printed for the line.
 pub fn answer(form: Form, line: Line) -> Text
-    requires { ⌜ line .length ≤ 149 ⌝ }
-    ensures { λ r. ⌜ (r .length ≤ 80) × (written r ≡ line-answer form (held line)) ⌝ }
+    requires { ⌜ line .length ≤ line-room ⌝ }
+    ensures { λ r. ⌜ (r .length ≤ text-room) × (written r ≡ line-answer form (held line)) ⌝ }
 {
     let bytes = line.bytes;
     let length = line.length;
@@ -67,7 +70,7 @@ pub fn answer(form: Form, line: Line) -> Text
 
 // What is printed before any answer.
 pub fn header(form: Form) -> Text
-    ensures { λ r. ⌜ (r .length ≤ 80) × (written r ≡ header form) ⌝ }
+    ensures { λ r. ⌜ (r .length ≤ text-room) × (written r ≡ header form) ⌝ }
 {
     match form {
         Form::Sheet => appended_bytes(empty(), b"TT LPRIME GMST\n"),

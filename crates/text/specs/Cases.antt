@@ -6,6 +6,7 @@ use Prim.Native.Char.{code}
 use Prim.Native.Nat.{ℕ}
 use Prim.Native.String.{String, [] as no-more, _∷_ as _before_}
 use lib.IntN.{ℤ, negsuc, pos}
+use Rattle.arithmetic.specs.Each.{Each}
 use Rattle.text.specs.Decimal.{decimal, decimals}
 use Rattle.text.specs.Line.{line-numbers}
 
@@ -49,3 +50,7 @@ cases =
     units-of (negsuc 0) "-0.00000001" ∷
     units-of (pos 19434024073) "194.34024073" ∷
     units-of (negsuc 9223372036854775807) "-92233720368.54775808" ∷ []
+
+-- every one of them holds
+abbrev pub CasesHold : Type 0
+CasesHold = Each Holds cases

@@ -44,6 +44,10 @@ with-point n = digits (n / 100_000_000) ++ point ∷ padded 8 n
 abbrev pub decimals : ℤ → List ℕ
 decimals = signed with-point
 
+-- the most bytes of a text
+abbrev pub text-room : ℕ
+text-room = 80
+
 -- the bytes of a text that are in use
 abbrev pub written : Text → List ℕ
 written text = take (text .length) (text .bytes)

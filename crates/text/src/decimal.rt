@@ -4,25 +4,28 @@ ghost use mathlib.Core.List.{_∷_, []};
 ghost use mathlib.Core.Path.{_≡_};
 ghost use Prim.Native.Nat.{_+_, _<_, _≤_};
 ghost use lib.ListN.{length, replicate};
-ghost use Rattle.text.specs.Decimal.{Appended, digits, decimal, padded, with-point, decimals};
+ghost use Rattle.text.specs.Decimal.{Appended, text-room, digits, decimal, padded, with-point, decimals};
+
+// The most bytes of a text; `text-room` of the specs.
+pub const TEXT_ROOM: usize = 80;
 
 // A line that is being written: its bytes, and how many are in use.
 pub struct Text {
-    pub bytes: [u8; 80],
+    pub bytes: [u8; TEXT_ROOM],
     pub length: usize,
 }
 
 pub fn empty() -> Text
-    ensures { λ r. ⌜ r ≡ record { bytes = replicate 80 0; length = 0 } ⌝ }
+    ensures { λ r. ⌜ r ≡ record { bytes = replicate text-room 0; length = 0 } ⌝ }
 {
     Text {
-        bytes: [0; 80],
+        bytes: [0; TEXT_ROOM],
         length: 0,
     }
 }
 
 pub fn appended_byte(text: Text, byte: u8) -> Text
-    requires { ⌜ text .length < 80 ⌝ }
+    requires { ⌜ text .length < text-room ⌝ }
     ensures { λ r. ⌜ Appended text (byte ∷ []) r ⌝ }
 {
     let at = text.length;
@@ -33,7 +36,7 @@ pub fn appended_byte(text: Text, byte: u8) -> Text
 }
 
 pub fn appended_bytes(text: Text, added: &[u8]) -> Text
-    requires { ⌜ text .length + length (now added) ≤ 80 ⌝ }
+    requires { ⌜ text .length + length (now added) ≤ text-room ⌝ }
     ensures { λ r. ⌜ Appended text (now (added .entry)) r ⌝ }
 {
     let mut next = text;
@@ -47,7 +50,7 @@ pub fn appended_bytes(text: Text, added: &[u8]) -> Text
 
 // The digits before the last one, and the last one: no more calls within calls than a number has digits.
 fn appended_digits(text: Text, size: u64) -> Text
-    requires { ⌜ text .length + length (digits size) ≤ 80 ⌝ }
+    requires { ⌜ text .length + length (digits size) ≤ text-room ⌝ }
     ensures { λ r. ⌜ Appended text (digits size) r ⌝ }
 {
     if size < 10 {
@@ -59,7 +62,7 @@ fn appended_digits(text: Text, size: u64) -> Text
 
 // Any number, also the least, has 20 bytes at most.
 pub fn appended_number(text: Text, value: i64) -> Text
-    requires { ⌜ text .length + 20 ≤ 80 ⌝ }
+    requires { ⌜ text .length + 20 ≤ text-room ⌝ }
     ensures { λ r. ⌜ Appended text (decimal value) r ⌝ }
 {
     let size = absolute(value);
@@ -71,7 +74,7 @@ pub fn appended_number(text: Text, value: i64) -> Text
 
 // So many digits, the last ones of a number.
 fn appended_padded(text: Text, count: usize, size: u64) -> Text
-    requires { ⌜ text .length + count ≤ 80 ⌝ }
+    requires { ⌜ text .length + count ≤ text-room ⌝ }
     ensures { λ r. ⌜ Appended text (padded count size) r ⌝ }
 {
     if count == 0 {
@@ -83,7 +86,7 @@ fn appended_padded(text: Text, count: usize, size: u64) -> Text
 
 // Any size has 12 digits before the point at most.
 fn appended_units(text: Text, size: u64) -> Text
-    requires { ⌜ text .length + 21 ≤ 80 ⌝ }
+    requires { ⌜ text .length + 21 ≤ text-room ⌝ }
     ensures { λ r. ⌜ Appended text (with-point size) r ⌝ }
 {
     let whole = appended_digits(text, size / 100_000_000);
@@ -92,7 +95,7 @@ fn appended_units(text: Text, size: u64) -> Text
 
 // Units of 10⁻⁸ with eight decimals.
 pub fn appended_decimals(text: Text, value: i64) -> Text
-    requires { ⌜ text .length + 22 ≤ 80 ⌝ }
+    requires { ⌜ text .length + 22 ≤ text-room ⌝ }
     ensures { λ r. ⌜ Appended text (decimals value) r ⌝ }
 {
     let size = absolute(value);

@@ -15,11 +15,11 @@ answer-last-requires c κs = search needs
 array-share-prefix-out : tie.Need-array-share-prefix-out
 array-share-prefix-out c = search needs
 
-slice-aggregate-write-all : tie.Need-slice-aggregate-write-all
-slice-aggregate-write-all c = let k = c .before .before .answer-last in sym (length-take-le (k .result) (k .last .1 .1 .0) (omega arith))
+slice-aggregate-write-out : tie.Need-slice-aggregate-write-out
+slice-aggregate-write-out c = let k = c .before .before .answer-last in sym (length-take-le (k .result) (k .last .1 .1 .0) (omega arith))
 
-write-all-requires : tie.Need-write-all-requires
-write-all-requires c κs = search needs
+write-out-requires : tie.Need-write-out-requires
+write-out-requires c κs = search needs
 
 returns : tie.Need-returns
 returns c = search needs
@@ -31,6 +31,6 @@ finish-spec =
     slice-aggregate-answer-last
     answer-last-requires
     array-share-prefix-out
-    slice-aggregate-write-all
-    write-all-requires
+    slice-aggregate-write-out
+    write-out-requires
     returns)

@@ -8,7 +8,7 @@ use Rattle.numbers.proofs.Machine.{any, arg}
 use Rattle.number_rules.specs.Angle.{full-turn}
 use Rattle.sky.proofs.DoubleMirror.{is-double}
 use Rattle.sky.proofs.RequestLaws.{between-size, tested}
-use Rattle.sky.specs.Refusal.{between}
+use Rattle.numbers.specs.Whole.{between}
 use Rattle.sum_rules.specs.Instant.{minus}
 use Rattle.cases.specs.Compare.{whole}
 use Rattle.cases.proofs.report.double.Statement.{statement}

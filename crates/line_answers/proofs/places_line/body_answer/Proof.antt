@@ -2,12 +2,12 @@
 use mathlib.Core.List.{List}
 use mathlib.Core.Path.{_∙_, _≡_, ap, sym}
 use Prim.Native.Nat.{ℕ}
-use native.Mathlib.Omega.{arith}
 use lib.ListN.{drop}
 use borrow.Author.Tests.{not-false, not-true}
 use Rattle.text.specs.Line.{line-numbers, short-numbers}
 use Rattle.text.specs.declared.line.Numbers.{Numbers}
 use Rattle.line_answers.proofs.PlacesLineLaws.{not-read, was-read}
+use Rattle.sky.proofs.AnswerLaws.{one-place}
 use Rattle.sky.specs.Answer.{place}
 use Rattle.line_answers.specs.PlacesLine.{body-answer, point-from}
 use Rattle.line_answers.specs.Sheet.{start-from}
@@ -29,7 +29,7 @@ short-numbers-requires c κs = search needs
 
 returns : tie.Need-returns
 unfolding body-answer
-returns c = (simp (short-is (c .before) ∙ not-true (c .before .short-numbers .result) (c .if1 .taken)), omega arith)
+returns c = one-place (simp (short-is (c .before) ∙ not-true (c .before .short-numbers .result) (c .if1 .taken)))
 
 line-numbers-requires : tie.Need-line-numbers-requires
 line-numbers-requires c κs = search needs
@@ -42,7 +42,7 @@ returns-2 c =
     let numbers = line-numbers 12 10 (words (first .before)) in
     let row =
     not-read (first .before .before .before .args .body) numbers (sym (ap (λ (n : Numbers). n .read) (k .ensures)) ∙ not-true (k .result .read) (c .if2 .taken)) in
-    (simp (short-is (first .before) ∙ not-false (first .before .short-numbers .result) (first .if1 .left)) row, omega arith)
+    one-place (simp (short-is (first .before) ∙ not-false (first .before .short-numbers .result) (first .if1 .left)) row)
 
 start-from-requires : tie.Need-start-from-requires
 start-from-requires c κs = search needs
@@ -65,7 +65,7 @@ returns-3 c =
     let point = c .before .point-from .ensures ∙ ap (λ (n : Numbers). point-from (n .values)) (k .ensures) in
     let row = was-read (a .body) numbers (sym (ap (λ (n : Numbers). n .read) (k .ensures)) ∙ not-false (k .result .read) (e .if2 .left)) in
     let short = short-is (first .before) ∙ not-false (first .before .short-numbers .result) (first .if1 .left) in
-    (simp short (c .place .ensures .0 ∙ (λ i. place (start i) (a .body) (point i) Airs.None) ∙ row), c .place .ensures .1)
+    one-place (simp short (c .place .ensures .0 .equal ∙ (λ i. place (start i) (a .body) (point i) Airs.None) ∙ row))
 
 pub body-answer-spec : {M : Type 1} → statement M
 body-answer-spec =

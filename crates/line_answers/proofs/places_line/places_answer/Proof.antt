@@ -1,10 +1,10 @@
 -- `places_line::places_answer` meets its contract.
 use mathlib.Core.Bool.{false, true}
 use mathlib.Core.Path.{_∙_, _≡_, sym}
-use native.Mathlib.Omega.{arith}
 use Rattle.text.proofs.LineLaws.{begins-within}
 use Rattle.text.specs.Cases.{bytes}
 use Rattle.text.specs.Line.{begins}
+use Rattle.sky.proofs.AnswerLaws.{one-place}
 use Rattle.line_answers.proofs.PlacesLineLaws.{moon-line, other-line, sun-line}
 use borrow.Author.Needs.{needs}
 use Rattle.line_answers.proofs.places_line.places_answer.Statement.{statement}
@@ -37,7 +37,7 @@ unfolding bytes
 body-answer-requires c κs = begins-within (bytes "sun ") (c .before .before .before .before .args .line .now) (is-sun c)
 
 returns : tie.Need-returns
-returns c = (c .body-answer .ensures .0 ∙ sun-line (c .before .before .before .before .before .args .line .now) (is-sun (c .before)), c .body-answer .ensures .1)
+returns c = one-place (c .body-answer .ensures .equal ∙ sun-line (c .before .before .before .before .before .args .line .now) (is-sun (c .before)))
 
 slice-aggregate-begins-2 : tie.Need-slice-aggregate-begins-2
 slice-aggregate-begins-2 c = search needs
@@ -53,12 +53,12 @@ returns-2 : tie.Need-returns-2
 returns-2 c =
     let k = c .before .before .before .before in
     let line = k .before .before .before .before .args .line .now in
-    (c .body-answer2 .ensures .0 ∙ moon-line line (no-sun k) (is-moon (c .before)), c .body-answer2 .ensures .1)
+    one-place (c .body-answer2 .ensures .equal ∙ moon-line line (no-sun k) (is-moon (c .before)))
 
 returns-3 : tie.Need-returns-3
 returns-3 c =
     let k = c .before .before .before in
-    (other-line (k .before .before .before .before .args .line .now) (no-sun k) (no-moon c), omega arith)
+    one-place (other-line (k .before .before .before .before .args .line .now) (no-sun k) (no-moon c))
 
 pub places-answer-spec : {M : Type 1} → statement M
 places-answer-spec =

@@ -1,18 +1,17 @@
 -- `sheet::arguments_text` meets its contract.
-use mathlib.Core.Path.{_∙_, _≡_, ap}
+use mathlib.Core.Path.{_∙_, _≡_}
+use Prim.Native.Nat.{_+_, _≤_}
 use native.Mathlib.Omega.{arith}
 use mir.Syntax.{w64}
 use mir.Val.{SFits}
-use Rattle.numbers.proofs.Machine.{any}
+use Rattle.numbers.proofs.Machine.{Mirror, any}
 use Rattle.text.proofs.DecimalLaws.{appended-twice}
-use Rattle.text.specs.declared.decimal.Text.{Text}
-use Rattle.line_answers.proofs.SheetLaws.{fields, fields-line, from-empty}
+use Rattle.text.specs.Decimal.{decimal}
+use Rattle.line_answers.proofs.PrintedLaws.{field, field-room, from-empty, none-used, number-room, whole-short}
+use Rattle.line_answers.proofs.SheetLaws.{fields-line}
 use borrow.Author.Needs.{needs}
 use Rattle.line_answers.proofs.sheet.arguments_text.Statement.{statement}
 use Rattle.line_answers.proofs.sheet.arguments_text.Tie as tie
-
-empty-requires : tie.Need-empty-requires
-empty-requires c κs = search needs
 
 module _ (s : tie.Start) where
   tt-fits : SFits w64 (s .args .found .tt)
@@ -24,39 +23,67 @@ module _ (s : tie.Start) where
   sidereal-fits : SFits w64 (s .args .found .sidereal)
   sidereal-fits = search needs
 
-none-used : (c : tie.After-empty) → c .empty .result .length ≡ 0
-none-used c = ap (λ (t : Text). t .length) (c .empty .ensures)
+empty-requires : tie.Need-empty-requires
+empty-requires c κs = search needs
 
-appended-field-requires : tie.Need-appended-field-requires
-appended-field-requires c κs = omega (arith, none-used (c .before))
+appended-number-requires : tie.Need-appended-number-requires
+appended-number-requires c κs = omega (arith, none-used (c .before .empty .ensures))
 
-appended-field-requires-2 : tie.Need-appended-field-requires-2
-appended-field-requires-2 c κs = let a = c .before in omega (arith, none-used (a .before .before), a .appended-field .ensures .1)
+appended-byte-requires : tie.Need-appended-byte-requires
+appended-byte-requires c κs =
+    let e = c .before .before in
+    omega (arith, none-used (e .empty .ensures), number-room decimal whole-short (any (tt-fits (e .before))) tt (c .appended-number .ensures))
 
-appended-field-requires-3 : tie.Need-appended-field-requires-3
-appended-field-requires-3 c κs =
-    let b = c .before in
-    let a = b .before .before in
-    omega (arith, none-used (a .before .before), a .appended-field .ensures .1, b .appended-field2 .ensures .1)
+first-room : (c : tie.After-appended-byte) → c .appended-byte .result .length ≤ 23
+first-room c =
+    let e = c .before .before .before in
+    omega (arith, none-used (e .empty .ensures), field-room decimal whole-short (any (tt-fits (e .before))) tt (c .before .appended-number .ensures) (c .appended-byte .ensures))
+
+appended-number-requires-2 : tie.Need-appended-number-requires-2
+appended-number-requires-2 c κs = omega (arith, first-room (c .before))
+
+appended-byte-requires-2 : tie.Need-appended-byte-requires-2
+appended-byte-requires-2 c κs =
+    let f = c .before .before in
+    let s = f .before .before .before .before in
+    omega (arith, first-room f, number-room decimal whole-short (any (longitude-fits s)) tt (c .appended-number2 .ensures))
+
+second-room : (c : tie.After-appended-byte2) → c .appended-byte2 .result .length ≤ 46
+second-room c =
+    let f = c .before .before .before in
+    let s = f .before .before .before .before in
+    omega (arith, first-room f, field-room decimal whole-short (any (longitude-fits s)) tt (c .before .appended-number2 .ensures) (c .appended-byte2 .ensures))
+
+appended-number-requires-3 : tie.Need-appended-number-requires-3
+appended-number-requires-3 c κs = omega (arith, second-room (c .before))
+
+appended-byte-requires-3 : tie.Need-appended-byte-requires-3
+appended-byte-requires-3 c κs =
+    let g = c .before .before in
+    let s = g .before .before .before .before .before .before .before in
+    omega (arith, second-room g, number-room decimal whole-short (any (sidereal-fits s)) tt (c .appended-number3 .ensures))
 
 returns : tie.Need-returns
 returns c =
-    let b = c .before .before in
-    let a = b .before .before in
-    let k = a .before .before in
-    let s = k .before in
-    let all = appended-twice (appended-twice (a .appended-field .ensures .0) (b .appended-field2 .ensures .0)) (c .appended-field3 .ensures .0) in (
-      from-empty (k .empty .ensures) all ∙ (λ i. fields (any (tt-fits s) .same i) (any (longitude-fits s) .same i) (any (sidereal-fits s) .same i))
-          ∙ fields-line (s .args .found),
-      omega (arith, none-used k, a .appended-field .ensures .1, b .appended-field2 .ensures .1, c .appended-field3 .ensures .1),
-    )
+    let g = c .before .before .before in
+    let f = g .before .before .before in
+    let e = f .before .before .before in
+    let s = e .before in
+    let first = field decimal whole-short (any (tt-fits s)) tt (f .before .appended-number .ensures) (f .appended-byte .ensures) in
+    let second = field decimal whole-short (any (longitude-fits s)) tt (g .before .appended-number2 .ensures) (g .appended-byte2 .ensures) in
+    let third = field decimal whole-short (any (sidereal-fits s)) tt (c .before .appended-number3 .ensures) (c .appended-byte3 .ensures) in
+    let last = field-room decimal whole-short (any (sidereal-fits s)) tt (c .before .appended-number3 .ensures) (c .appended-byte3 .ensures) in
+    (from-empty (e .empty .ensures) (appended-twice (appended-twice first second) third) ∙ fields-line (s .args .found), omega (arith, second-room g, last))
 
 pub arguments-text-spec : {M : Type 1} → statement M
 arguments-text-spec =
     tie.close
     (tie.spec
     empty-requires
-    appended-field-requires
-    appended-field-requires-2
-    appended-field-requires-3
+    appended-number-requires
+    appended-byte-requires
+    appended-number-requires-2
+    appended-byte-requires-2
+    appended-number-requires-3
+    appended-byte-requires-3
     returns)

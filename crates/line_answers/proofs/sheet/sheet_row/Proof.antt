@@ -1,10 +1,9 @@
 -- `sheet::sheet_row` meets its contract.
 use mathlib.Core.Path.{_∙_, ap, sym}
-use native.Mathlib.Omega.{arith}
 use borrow.Author.Tests.{not-false, not-true}
 use Rattle.text.specs.Line.{sheet-numbers}
 use Rattle.text.specs.declared.line.Numbers.{Numbers}
-use Rattle.line_answers.proofs.SheetLaws.{not-read, was-read}
+use Rattle.line_answers.proofs.SheetLaws.{not-read, one-row, was-read}
 use Rattle.line_answers.specs.Sheet.{sheet-row, start-from, start-row}
 use borrow.Author.Needs.{needs}
 use Rattle.line_answers.proofs.sheet.sheet_row.Statement.{statement}
@@ -18,7 +17,7 @@ unfolding sheet-row
 returns c =
     let k = c .before .before .sheet-numbers in
     let line = c .before .before .before .before .args .line .now in
-    (not-read (sheet-numbers line) (sym (ap (λ (n : Numbers). n .read) (k .ensures)) ∙ not-true (k .result .read) (c .if1 .taken)), omega arith)
+    one-row (not-read (sheet-numbers line) (sym (ap (λ (n : Numbers). n .read) (k .ensures)) ∙ not-true (k .result .read) (c .if1 .taken)))
 
 start-from-requires : tie.Need-start-from-requires
 start-from-requires c κs = search needs
@@ -34,7 +33,7 @@ returns-2 c =
     let line = e .before .before .before .before .args .line .now in
     let start = c .before .start-from .ensures ∙ ap (λ (n : Numbers). start-from (n .values)) (k .ensures) in
     let row = was-read (sheet-numbers line) (sym (ap (λ (n : Numbers). n .read) (k .ensures)) ∙ not-false (k .result .read) (e .if1 .left)) in
-    (c .start-row .ensures .0 ∙ ap start-row start ∙ row, c .start-row .ensures .1)
+    one-row (c .start-row .ensures .equal ∙ ap start-row start ∙ row)
 
 pub sheet-row-spec : {M : Type 1} → statement M
 sheet-row-spec =

@@ -7,6 +7,7 @@ use native.Mathlib.Omega.{arith}
 use lib.ListN.{getD, length, take}
 use lib.Seq.{length-take-le, take-all, take-suc}
 use borrow.Author.Needs.{needs}
+use Rattle.text.specs.Decimal.{text-room}
 use Rattle.lines.specs.Lines.{Answered}
 use Rattle.lines.proofs.AnswerLaws.{answered-more, answered-none}
 use Rattle.lines.proofs.answers.answer_chunk.Statement.{statement}
@@ -32,7 +33,7 @@ step-requires c κs =
     let l = c .before .before .before in
     let s = l .before .before .before in
     let done = l .loop .inv .1 .1 in
-    let room : l .loop .turn .used + 80 ≤ length (l .loop .out) = omega (
+    let room : l .loop .turn .used + text-room ≤ length (l .loop .out) = omega (
       arith,
       done .used-within,
       length-take-le (l .loop .at) (s .args .chunk .now) (l .loop .inv .0),

@@ -4,14 +4,14 @@ use Prim.Native.Nat.{_<_, ℕ}
 use native.Mathlib.Omega.{arith}
 use lib.ListN.{length, length-map, take}
 use lib.Seq.{length-take-le}
-use Rattle.lines.specs.Lines.{held, last-answer}
+use Rattle.lines.specs.Lines.{held, last-answer, line-room}
 use Rattle.lines.proofs.AnswerLaws.{kept-last, some-last}
 use borrow.Author.Needs.{needs}
 use Rattle.lines.proofs.answers.answer_last.Statement.{statement}
 use Rattle.lines.proofs.answers.answer_last.Tie as tie
 
 -- the array of the struct has its length
-all-bytes : (s : tie.Start) → length (s .args .line .bytes) ≡ 149
+all-bytes : (s : tie.Start) → length (s .args .line .bytes) ≡ line-room
 all-bytes s = sym (length-map (s .args .line .bytes) (λ v. v)) ∙ s .good .1 .0 .1 .1 .0 .1 .0 .1
 
 returns : tie.Need-returns

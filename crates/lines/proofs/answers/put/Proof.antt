@@ -7,6 +7,7 @@ use native.Mathlib.Omega.{arith}
 use lib.ListN.{getD, length, length-map, set, take}
 use lib.Seq.{length-paste, paste, paste-suc, paste-zero, take-paste}
 use borrow.Author.Needs.{needs}
+use Rattle.text.specs.Decimal.{text-room}
 use Rattle.lines.proofs.answers.put.Statement.{statement}
 use Rattle.lines.proofs.answers.put.Tie as tie
 
@@ -17,7 +18,7 @@ abbrev μ-loop : tie.MeasureT-loop
 μ-loop out₀ start bytes size at₀ out at = size - at
 
 -- the array of the struct has its length
-all-bytes : (s : tie.Start Inv-loop μ-loop) → length (s .args .text .bytes) ≡ 80
+all-bytes : (s : tie.Start Inv-loop μ-loop) → length (s .args .text .bytes) ≡ text-room
 all-bytes s = sym (length-map (s .args .text .bytes) (λ v. v)) ∙ s .good .0 .1 .1 .0 .1 .0 .1
 
 module _ (c : tie.At-loop Inv-loop μ-loop) where

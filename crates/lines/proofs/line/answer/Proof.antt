@@ -4,11 +4,12 @@ use native.Mathlib.Omega.{arith}
 use lib.ListN.{length, length-map}
 use lib.Seq.{length-take-le}
 use borrow.Author.Needs.{needs}
+use Rattle.lines.specs.Lines.{line-room}
 use Rattle.lines.proofs.line.answer.Statement.{statement}
 use Rattle.lines.proofs.line.answer.Tie as tie
 
 -- the array of the struct has its length
-all-bytes : (s : tie.Start) → length (s .args .line .bytes) ≡ 149
+all-bytes : (s : tie.Start) → length (s .args .line .bytes) ≡ line-room
 all-bytes s = sym (length-map (s .args .line .bytes) (λ v. v)) ∙ s .good .1 .0 .1 .1 .0 .1 .0 .1
 
 array-share-prefix-bytes : tie.Need-array-share-prefix-bytes

@@ -6,7 +6,7 @@ use Rattle.text.proofs.DecimalLaws.{appended-length}
 use Rattle.text.specs.Cases.{bytes}
 use Rattle.text.specs.Decimal.{written}
 use Rattle.text.specs.declared.decimal.Text.{Text}
-use Rattle.line_answers.proofs.SheetLaws.{from-empty}
+use Rattle.line_answers.proofs.PrintedLaws.{from-empty}
 use Rattle.lines.specs.Lines.{header}
 use Rattle.lines.proofs.line.header.Statement.{statement}
 use Rattle.lines.proofs.line.header.Tie as tie
