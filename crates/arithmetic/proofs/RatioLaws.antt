@@ -7,7 +7,7 @@ use native.Mathlib.Omega.{arith}
 use lib.IntN.{_*ℤ_, _+ℤ_, negsuc, negℤ, pos, pos-ne-negsuc, ℤ}
 use lib.Signed.{nonNeg}
 use Rattle.arithmetic.specs.Floor.{_modulo_, ⌊_÷_⌋}
-use Rattle.arithmetic.specs.Ratio.{Ratio, _~_, den, floor, opposite, positive, product, sum, times}
+use Rattle.arithmetic.specs.Ratio.{Ratio, _~_, den, floor, opposite, not-negative, product, sum, times}
 use Rattle.arithmetic.proofs.FloorLaws.{modulo-below, split, unique-floor}
 use Rattle.arithmetic.proofs.Integers.{linℤ}
 use Rattle.arithmetic.proofs.Solver.{_:*_, _:+_, con, neg′, x0, x1, x2, x3, x4, x5}
@@ -74,8 +74,8 @@ same-sign (pos a) d (negsuc b) e h = absurd (pos-ne-negsuc (a * suc e) _ (h ∙ 
 same-sign (negsuc a) d (pos b) e h = absurd (pos-ne-negsuc (b * suc d) _ (sym h ∙ ap (λ (n : ℕ). negℤ (pos n)) (product-suc a e)))
 same-sign (negsuc a) d (negsuc b) e h = refl
 
-pub positive-same : (x y : Ratio) → x ~ y → positive x ≡ positive y
-positive-same x y h = same-sign (x .num) (x .den-1) (y .num) (y .den-1) h
+pub not-negative-same : (x y : Ratio) → x ~ y → not-negative x ≡ not-negative y
+not-negative-same x y h = same-sign (x .num) (x .den-1) (y .num) (y .den-1) h
 
 -- ---- the floor
 -- both numbers times k

@@ -37,8 +37,8 @@ abbrev pub whole : ℤ → Ratio
 whole a = record { num = a; den-1 = 0 }
 
 -- at or above zero
-abbrev pub positive : Ratio → Bool
-positive x = nonNeg (x .num)
+abbrev pub not-negative : Ratio → Bool
+not-negative x = nonNeg (x .num)
 
 -- the greatest whole number that is not above
 abbrev pub floor : Ratio → ℤ

@@ -5,9 +5,9 @@ use mathlib.Mathlib.Data.Quot.{lift₂}
 use Prim.Native.Nat.{ℕ, zero, suc}
 use lib.Dec.{T}
 use lib.IntN.{ℤ, pos, ℤ-set}
-use Rattle.arithmetic.specs.Ratio.{Ratio, _~_, sum, product, opposite, positive}
+use Rattle.arithmetic.specs.Ratio.{Ratio, _~_, sum, product, opposite, not-negative}
 use Rattle.arithmetic.specs.Ratio as Ratio
-use Rattle.arithmetic.proofs.RatioLaws.{sum-right, sum-left, product-right, product-left, opposite-same, positive-same, floor-same}
+use Rattle.arithmetic.proofs.RatioLaws.{sum-right, sum-left, product-right, product-left, opposite-same, not-negative-same, floor-same}
 
 abbrev pub ℚ : Type 0
 ℚ = Quot _~_
@@ -50,7 +50,7 @@ floor p = Quot·lift ℤ-set Ratio.floor floor-same p
 
 -- at or above zero: `nn` is the test, `NN` the statement
 unfoldable pub nn : ℚ → Bool
-nn p = Quot·lift Bool-set positive positive-same p
+nn p = Quot·lift Bool-set not-negative not-negative-same p
 
 pub record NN (p : ℚ) : Type 0 where
   pub is : T (nn p)

@@ -3,7 +3,7 @@ use mathlib.Core.List.{List, [], _∷_}
 use Prim.Native.Nat.{ℕ, _*_, _^_, _<_}
 use lib.IntN.{pos, _+ℤ_, _-ℤ_}
 use lib.ListN.{getD}
-use Rattle.exact.specs.Fraction.{ℚ, whole, nat, _*q_, _over_, _≤q_}
+use Rattle.exact.specs.Fraction.{whole, nat, _*q_, _over_, _≤q_}
 use Rattle.exact.specs.Reference.{sin°, cos°}
 
 -- the rule of entry k, judged half a unit either side by the reference sine and cosine

@@ -1,7 +1,6 @@
 -- Cases by hand (01, ●) that belong to numbers and angles.
 use mathlib.Core.Path.{_≡_}
 use mathlib.Core.List.{List, [], _∷_}
-use Prim.Native.Nat.{ℕ}
 use lib.IntN.{ℤ, pos, negsuc}
 use Rattle.arithmetic.specs.Each.{Each}
 use Rattle.number_rules.specs.Calendar.{DayAnswer, day-count}

@@ -20,4 +20,3 @@ angle-zero n =
 pub cosine-zero : cosine (pos 0) ≡ pos 1_000_000_000
 unfolding cosine sine reduced _modulo_ sine-at negated-from-half fold half-fold quarter-sine sines
 cosine-zero = refl
-

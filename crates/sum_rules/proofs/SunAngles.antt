@@ -2,22 +2,19 @@
 use mathlib.Core.List.{[], _∷_}
 use mathlib.Core.Path.{_∙_, _≡_, ap, refl, subst, subst₂, sym}
 use mathlib.Core.Quot.{Quot·sound}
-use Prim.Native.Nat.{_*_, _-_, _/_, _<_, _^_, _≤_, suc, zero, ℕ}
+use Prim.Native.Nat.{_*_, _-_, _<_, _^_, _≤_, suc, zero, ℕ}
 use native.Mathlib.Nat.{zero-lt-suc}
 use native.Mathlib.Omega.{arith}
 use lib.IntN.{_+ℤ_, pos, ℤ}
 use Rattle.arithmetic.specs.Floor.{_modulo_, ⌊_÷_⌋}
 use Rattle.arithmetic.proofs.FloorLaws.{modulo-below}
-use Rattle.arithmetic.proofs.Integers.{solveℤ}
 use Rattle.arithmetic.proofs.Solver.{_:*_, _:+_, _:-_, k0, k1, neg′, x0, x1, x2, x3, x4, x5, x6, x7, x8, x9}
 use Rattle.exact.specs.Fraction.{Within, _*q_, _+q_, _-q_, _over_, _≤q_, floor, inv, nat, negq, nn, whole, ℚ}
 use Rattle.exact.specs.Reference.{cos°, factorial, power, sign, sum, π-digits}
 use Rattle.exact.proofs.Floors.{in-within, nat-le, whole-split}
 use Rattle.exact.proofs.FractionLaws.{inv-mul, linq, solveq, whole-add}
 use Rattle.exact.proofs.Order.{leby, nn-int, nn-inv, within-add, within-le, within-mul, within-neg, within-self}
-use Rattle.number_rules.specs.Angle.{reduced}
-use Rattle.number_rules.specs.Sine.{cosine, fold, half-fold, negated-from-half, quarter-sine, sine, sine-at}
-use Rattle.number_rules.specs.SineTable.{sines}
+use Rattle.number_rules.specs.Sine.{cosine}
 use Rattle.number_rules.proofs.SineTableLaws.{billion}
 use Rattle.sum_rules.specs.ExactSums.{centuries, millennia, ray-angle}
 use Rattle.sum_rules.specs.Instant.{century, millennium}

@@ -1,4 +1,4 @@
--- Demand 3 (01, "Bounds for demand 3"): what the sums at n are within of the exact sums, one claim for each body.
+-- Demand 3 (01, "Bounds for demand 3"): how near the sums at n are to the exact sums, one claim for each body.
 use Prim.Native.Nat.{ℕ}
 use lib.IntN.{ℤ}
 use Rattle.exact.specs.Fraction.{ℚ, whole, nat, _+q_, _-q_, _*q_, Within}

@@ -1,7 +1,7 @@
 -- Time (01, "Time"): instants counted from noon of 2000-01-01 in a unit of time, their powers, and the polynomials in them.
 use mathlib.Core.Path.{_≡_}
 use Prim.Native.Nat.{ℕ, _*_, _/_, _^_, _≤_, _<_}
-use lib.IntN.{ℤ, pos, negsuc, negℤ, natAbs, _+ℤ_, _*ℤ_, _-ℤ_}
+use lib.IntN.{ℤ, pos, negℤ, natAbs, _+ℤ_, _*ℤ_, _-ℤ_}
 use lib.Signed.{_≤ℤ_, _<ℤ_}
 use Rattle.arithmetic.specs.Floor.{⌊_÷_⌋}
 use Rattle.number_rules.specs.Angle.{reduced}
@@ -67,7 +67,7 @@ p4 n = ⌊ p2 n *ℤ p2 n ÷ 1_000_000 ⌋
 abbrev pub powers : ℤ → Powers
 powers n = record { n = n; u = u n; p2 = p2 n; p3 = p3 n; p4 = p4 n }
 
--- the powers of an instant within reach
+-- the powers of an instant that is no further away
 pub record Reached (t : Powers) : Type 0 where
   pub is : t ≡ powers (t .n)
   pub near : natAbs (t .n) ≤ furthest

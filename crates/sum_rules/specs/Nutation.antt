@@ -1,5 +1,5 @@
 -- The nutation and the obliquity (01, "Nutation"), at TT n.
-use Prim.Native.Nat.{ℕ, _*_, _/_}
+use Prim.Native.Nat.{_*_, _/_}
 use mathlib.Core.List.{List, [], _∷_}
 use lib.IntN.{ℤ, pos, _+ℤ_, _*ℤ_}
 use Rattle.arithmetic.specs.Floor.{⌊_÷_⌋}

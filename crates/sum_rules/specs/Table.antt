@@ -16,6 +16,6 @@ unfoldable pub count : {A : Type 0} → (A → ℕ) → List A → ℕ
 count f [] = 0
 count f (row ∷ rows) = f row + count f rows
 
--- a row whose columns are within given bounds
+-- a row none of whose columns passes its bound, on either side of zero
 pub record Bounded (bounds : List ℕ) (row : List ℤ) : Type 0 where
   pub each : (i : ℕ) → i < length bounds → natAbs (column row i) ≤ getD bounds i 0

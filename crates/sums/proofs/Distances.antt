@@ -11,9 +11,6 @@ use lib.Signed.{_≤ℤ_}
 use Rattle.arithmetic.specs.Floor.{⌊_÷_⌋}
 use Rattle.arithmetic.proofs.Difference.{#_, _⊞_, abs-parts, by-le, to-le, ⊟_, ⟨_⟩}
 use Rattle.arithmetic.proofs.Sizes.{mul-bound}
-use Rattle.exact.proofs.LinearStep.{small}
-use Rattle.numbers.proofs.LimbLaws.{rest}
-use Rattle.numbers.proofs.WideProduct.{low}
 use Rattle.sum_rules.specs.Instant.{furthest, millennium}
 use Rattle.sum_rules.specs.Moon.{arguments, cosine-term, distance-sum, eccentricity, metres}
 use Rattle.sums.specs.MoonRange.{spread}

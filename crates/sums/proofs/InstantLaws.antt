@@ -1,5 +1,5 @@
 -- Sizes of the powers of an accepted instant: little more than a million on either side of zero.
-use mathlib.Core.Path.{_≡_, refl, subst⁻¹}
+use mathlib.Core.Path.{_≡_, ap, refl, subst⁻¹}
 use Prim.Native.Nat.{_*_, _+_, _/_, _≤_, ℕ}
 use native.Mathlib.Nat.{le-refl, le-trans}
 use native.Mathlib.Omega.{arith}
@@ -10,6 +10,7 @@ use Rattle.arithmetic.proofs.FloorLaws.{floor-most}
 use Rattle.arithmetic.proofs.Sizes.{mul-bound}
 use Rattle.number_rules.specs.Angle.{full-turn}
 use Rattle.number_rules.proofs.SineLaws.{reduced-below}
+use Rattle.numbers.proofs.Machine.{Mirror, told}
 use Rattle.sum_rules.specs.Instant.{Reached, century, day, furthest, minus, p2, p3, p4, powers, u, value}
 use Rattle.sum_rules.specs.Sidereal.{mean}
 use Rattle.sum_rules.specs.declared.instant.Polynomial.{Polynomial}
@@ -44,6 +45,23 @@ value-small p n =
 
 pub reached : {t : Powers} {n : ℤ} → t ≡ powers n → natAbs n ≤ furthest → Reached t
 reached {n} e h = subst⁻¹ Reached e (record { is = refl; near = h })
+
+-- the instant itself, read from its powers
+abbrev pub instant-told : {t : Powers} → Reached t → Mirror
+instant-told {t} r = told {r = t .n} refl (r .near) tt
+
+-- and what was worked out of it
+abbrev pub u-told : {t : Powers} → Reached t → Mirror
+u-told {t} r = told (ap (λ (t : Powers). t .u) (r .is)) (u-most (t .n) (r .near)) tt
+
+abbrev pub p2-told : {t : Powers} → Reached t → Mirror
+p2-told {t} r = told (ap (λ (t : Powers). t .p2) (r .is)) (p2-most (t .n) (r .near)) tt
+
+abbrev pub p3-told : {t : Powers} → Reached t → Mirror
+p3-told {t} r = told (ap (λ (t : Powers). t .p3) (r .is)) (p3-most (t .n) (r .near)) tt
+
+abbrev pub p4-told : {t : Powers} → Reached t → Mirror
+p4-told {t} r = told (ap (λ (t : Powers). t .p4) (r .is)) (p4-most (t .n) (r .near)) tt
 
 -- the mean sidereal time is reduced
 pub mean-most : (ut : ℤ) → mean ut ≤ full-turn

@@ -2,6 +2,7 @@ pub mod InstantLaws
 pub mod TableLaws
 pub mod NarrowMirror
 pub mod SumLoop
+pub mod TermLaws
 pub mod MoonLaws
 pub mod NutationLaws
 pub mod SunLaws

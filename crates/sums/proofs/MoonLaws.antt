@@ -2,7 +2,7 @@
 use mathlib.Core.Bool.{Bool, _&&_}
 use mathlib.Core.List.{List, [], _∷_}
 use mathlib.Core.Path.{_∙_, _≡_, ap}
-use Prim.Native.Nat.{_*_, _+_, _/_, _<_, _^_, _≤_, suc, zero, zero-le, ℕ}
+use Prim.Native.Nat.{_*_, _+_, _/_, _<_, _^_, _≤_, suc, zero, ℕ}
 use native.Mathlib.Nat.{le-refl, le-trans}
 use native.Mathlib.Omega.{arith}
 use lib.Dec.{T, leb, leb→le}
@@ -12,6 +12,8 @@ use mir.Facts.{and-yes}
 use Rattle.arithmetic.specs.Floor.{⌊_÷_⌋}
 use Rattle.arithmetic.proofs.FloorLaws.{floor-most}
 use Rattle.arithmetic.proofs.Sizes.{abs-mul, add-bound, mul-bound}
+use Rattle.arithmetic.proofs.Integers.{solveℤ}
+use Rattle.arithmetic.proofs.Solver.{_:*_, _:+_, k0, x0, x1, x2, x3, x4}
 use Rattle.arithmetic.proofs.Table.{every}
 use Rattle.number_rules.specs.Angle.{full-turn}
 use Rattle.number_rules.specs.Sine.{cosine, sine}
@@ -19,12 +21,15 @@ use Rattle.numbers.proofs.Machine.{Mirror, gave}
 use Rattle.number_rules.proofs.SineSize.{cosine-most, sine-most}
 use Rattle.sum_rules.specs.Instant.{furthest, minus, p2, u}
 use Rattle.sum_rules.specs.Moon.{E, E2, added, arguments, cosine-term, eccentricity, row-angle, sine-term, weight}
-use Rattle.sums.specs.MoonRange.{Slight, Summable, Turns, row-bounds, spread}
-use Rattle.sum_rules.specs.MoonTerms.{L′, M′, latitude-terms, longitude-distance-terms}
-use Rattle.sum_rules.specs.Table.{column, count, total}
+use Rattle.sums.specs.MoonRange.{Slight, Summable, row-bounds, spread}
+use Rattle.sums.specs.TermRange.{Turns, angle-of}
+use Rattle.sum_rules.specs.MoonTerms.{latitude-terms, longitude-distance-terms}
+use Rattle.sum_rules.specs.Table.{column, count}
 use Rattle.sum_rules.specs.declared.moon.Eccentricity.{Eccentricity}
 use Rattle.sums.proofs.InstantLaws.{floor-size, p2-most, u-most, value-small}
-use Rattle.sums.proofs.TableLaws.{bounded-rows, bounded-test, total-size}
+use Rattle.sums.proofs.TableLaws.{bounded-rows, bounded-test}
+use Rattle.sums.proofs.SumLoop.{Summing}
+use Rattle.sums.proofs.TermLaws.{five}
 use Rattle.sum_rules.specs.MoonTerms as Of
 
 scaled : (l e : ℤ) → natAbs e ≤ 2 ^ 20 → natAbs ⌊ l *ℤ e ÷ 10_000 ⌋ ≤ 105 * natAbs l + 1
@@ -40,28 +45,35 @@ weight-most e s zero l = omega (arith, abs-mul (pos 100) l)
 weight-most e s (suc zero) l = scaled l (e .e) (s .once)
 weight-most e s (suc (suc m)) l = scaled l (e .e2) (s .twice)
 
-pub sine-term-most : (args : List ℤ) (e : Eccentricity) → Slight e → (row : List ℤ) → natAbs (sine-term args e row) ≤ spread 4 row
-sine-term-most args e s row =
-    mul-bound (weight e (natAbs (column row 1)) (column row 4)) (sine (row-angle args row)) (weight-most e s (natAbs (column row 1)) (column row 4)) (sine-most (row-angle args row))
+module _ (args : List ℤ) (e : Eccentricity) (slight : Slight e) where
+  sine-term-most : (row : List ℤ) → natAbs (sine-term args e row) ≤ spread 4 row
+  sine-term-most row =
+      mul-bound (weight e (natAbs (column row 1)) (column row 4)) (sine (row-angle args row)) (weight-most e slight (natAbs (column row 1)) (column row 4)) (sine-most (row-angle args row))
 
-pub cosine-term-most : (args : List ℤ) (e : Eccentricity) → Slight e → (row : List ℤ) → natAbs (cosine-term args e row) ≤ spread 5 row
-cosine-term-most args e s row =
-    mul-bound (weight e (natAbs (column row 1)) (column row 5)) (cosine (row-angle args row)) (weight-most e s (natAbs (column row 1)) (column row 5)) (cosine-most (row-angle args row))
+  pub cosine-term-most : (row : List ℤ) → natAbs (cosine-term args e row) ≤ spread 5 row
+  cosine-term-most row =
+      mul-bound (weight e (natAbs (column row 1)) (column row 5)) (cosine (row-angle args row)) (weight-most e slight (natAbs (column row 1)) (column row 5)) (cosine-most (row-angle args row))
+
+  -- the sums of a table are small
+  module _ (terms : List (List ℤ)) (fit : Summable terms) where
+    pub sine-summing : Summing (sine-term args e) terms (2 ^ 62)
+    sine-summing = record { size = spread 4; sized = sine-term-most; fit = fit .by-sine }
+
+    pub cosine-summing : Summing (cosine-term args e) terms (2 ^ 62)
+    cosine-summing = record { size = spread 5; sized = cosine-term-most; fit = fit .by-cosine }
 
 pub weight-small : (e : Eccentricity) → Slight e → (m : ℕ) (l : ℤ) → natAbs l ≤ 2 ^ 25 → natAbs (weight e m l) ≤ 2 ^ 32
 weight-small e s m l h = omega (arith, weight-most e s m l, h)
 
+-- no row has L' in its angle
+pub moon-angle : (args row : List ℤ) → angle-of args (pos 0 ∷ column row 0 ∷ column row 1 ∷ column row 2 ∷ column row 3 ∷ []) ≡ row-angle args row
+moon-angle args row =
+    solveℤ (k0 :* x0 :+ x1 :+ x2 :+ x3 :+ x4) (x1 :+ x2 :+ x3 :+ x4)
+    (column args 0 ∷ (column row 0 *ℤ column args 1) ∷ (column row 1 *ℤ column args 2) ∷ (column row 2 *ℤ column args 3) ∷ (column row 3 *ℤ column args 4) ∷ []) tt
+
 -- the arguments are reduced
 pub arguments-turn : (n : ℤ) → Turns (arguments n)
-arguments-turn n = record { within = go }
-  where
-    go : (i : ℕ) → natAbs (column (arguments n) i) ≤ full-turn
-    go zero = value-small Of.L′ n
-    go (suc zero) = value-small Of.D n
-    go (suc (suc zero)) = value-small Of.M n
-    go (suc (suc (suc zero))) = value-small Of.M′ n
-    go (suc (suc (suc (suc zero)))) = value-small Of.F n
-    go (suc (suc (suc (suc (suc i))))) = zero-le
+arguments-turn n = record { below = five full-turn _ _ _ _ _ (value-small Of.L′ n) (value-small Of.D n) (value-small Of.M n) (value-small Of.M′ n) (value-small Of.F n) }
 
 module _ (n : ℤ) (h : natAbs n ≤ furthest) where
   E-most : natAbs (E n) ≤ 1_003_000
@@ -102,14 +114,6 @@ longitude-distance-fits = summable longitude-distance-terms tt
 pub latitude-fits : Summable latitude-terms
 unfolding latitude-terms bounded-test count
 latitude-fits = summable latitude-terms tt
-
--- the sums of a table are small
-module _ (args : List ℤ) (e : Eccentricity) (slight : Slight e) (terms : List (List ℤ)) (fit : Summable terms) where
-  pub by-sine-small : natAbs (total (sine-term args e) terms) ≤ 2 ^ 62
-  by-sine-small = le-trans (total-size (sine-term args e) (spread 4) (sine-term-most args e slight) terms) (fit .by-sine)
-
-  pub by-cosine-small : natAbs (total (cosine-term args e) terms) ≤ 2 ^ 62
-  by-cosine-small = le-trans (total-size (cosine-term args e) (spread 5) (cosine-term-most args e slight) terms) (fit .by-cosine)
 
 -- what a term outside the tables gave, at the angle a
 pub added-small : (w a : ℤ) → T (leb (natAbs w) 4_000) → natAbs (added w a) ≤ 2 ^ 49

@@ -1,13 +1,16 @@
 -- Numbers of 32 bits read from a table's row and widened to 64: what the machine computes of them, as a `Mirror`.
+use mathlib.Core.List.{List}
 use mathlib.Core.Path.{_∙_, _≡_, subst⁻¹}
 use Prim.Native.Nat.{_^_, _≤_, ℕ}
 use native.Mathlib.Omega.{arith}
 use lib.Dec.{T, ltb, ltb→lt, lt→ltb}
 use lib.IntN.{natAbs, ℤ}
+use lib.ListN.{getD, length}
 use mir.Syntax.{w32, w64}
 use mir.Val.{SFits, ofZ, toZ}
 use mir.ValLaws.{toZ-ofZ}
 use Rattle.numbers.proofs.Machine.{Mirror, abs-fits, mag-le}
+use Rattle.sum_rules.specs.Table.{Bounded, column}
 
 module _ (x : ℤ) {m : ℕ} (h : natAbs x ≤ m) (t : T (ltb m (2 ^ 31))) where
   narrow-fits : SFits w32 x
@@ -28,3 +31,14 @@ module _ (x : ℤ) {m : ℕ} (h : natAbs x ≤ m) (t : T (ltb m (2 ^ 31))) where
     same = toZ-ofZ w64 (toZ w32 (ofZ w32 x)) widened ∙ narrow-same;
     bound = h;
   }
+
+-- a column of a row, as it is handed on
+module _ {bounds : List ℕ} {row : List ℤ} (small : Bounded bounds row) (i : ℕ) (inside : T (ltb i (length bounds))) (t : T (ltb (getD bounds i 0) (2 ^ 31))) where
+  pub column-most : natAbs (column row i) ≤ getD bounds i 0
+  column-most = small .each i (ltb→lt i (length bounds) inside)
+
+  pub column-same : toZ w32 (ofZ w32 (column row i)) ≡ column row i
+  column-same = narrow-same (column row i) column-most t
+
+  pub column-handed : natAbs (toZ w32 (ofZ w32 (column row i))) ≤ getD bounds i 0
+  column-handed = rw column-same column-most

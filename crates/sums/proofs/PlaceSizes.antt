@@ -45,7 +45,7 @@ unfolding series
 B-most n h =
     le-trans
     (add-bound (group n B0) ⌊ down n (drop 1 B-groups) *ℤ n ÷ millennium ⌋ (le-trans (group-most n B0) (leb→le (count spread B0) (2 ^ 45) B-test))
-    (floor-size (down n (drop 1 B-groups) *ℤ n) millennium {m = 2 ^ 46 * furthest} {k = 2 ^ 45} (mul-bound (down n (drop 1 B-groups)) n (B-sound .first n h) h) tt))
+    (floor-size (down n (drop 1 B-groups) *ℤ n) millennium {m = 2 ^ 46 * furthest} {k = 2 ^ 45} (mul-bound (down n (drop 1 B-groups)) n (B-sound .above n h 0) h) tt))
     (lit≤ tt)
 
 pub apparent-most : (ut nutation obliquity : ℤ) → natAbs nutation ≤ 2 ^ 26 → natAbs (apparent ut nutation obliquity) ≤ 2 ^ 36

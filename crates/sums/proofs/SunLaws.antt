@@ -1,31 +1,33 @@
 -- Constant rows of the Sun's tables, and sizes of its rows and groups.
 use mathlib.Core.Bool.{Bool, _&&_, true}
 use mathlib.Core.List.{List, [], _∷_}
-use mathlib.Core.Path.{_∙_, _≡_, ap, ap₂, refl}
+use mathlib.Core.Path.{_∙_, _≡_, ap, ap₂, refl, subst⁻¹, sym}
 use Prim.Native.Nat.{_*_, _+_, _/_, _<_, _^_, _≤_, suc, zero, zero-le, ℕ}
 use native.Mathlib.Nat.{le-refl, le-trans, not-suc-le-zero, zero-lt-suc}
 use native.Mathlib.Omega.{arith}
-use lib.Dec.{T, leb, leb→le}
+use lib.Dec.{T, leb, leb→le, ltb, ltb→lt}
 use lib.IntN.{_*ℤ_, _+ℤ_, natAbs, pos, ℤ}
 use lib.ListN.{drop, getD, length}
+use lib.Seq.{drop-cons}
+use lib.Signed.{mag}
 use mir.Facts.{and-yes}
 use Rattle.arithmetic.specs.Floor.{_modulo_, ⌊_÷_⌋}
 use Rattle.arithmetic.proofs.FloorLaws.{floor-most, modulo-below}
-use Rattle.arithmetic.proofs.Integers.{solveℤ}
 use Rattle.arithmetic.proofs.Sizes.{add-bound, mul-bound}
-use Rattle.arithmetic.proofs.Solver.{_:*_, k0, x0}
 use Rattle.arithmetic.proofs.Table.{at, every}
-use Rattle.number_rules.specs.Angle.{full-turn, reduced}
-use Rattle.number_rules.specs.Sine.{cosine, fold, half-fold, negated-from-half, quarter-sine, sine, sine-at}
-use Rattle.number_rules.specs.SineTable.{sines}
+use Rattle.number_rules.specs.Angle.{full-turn}
+use Rattle.number_rules.specs.Sine.{cosine}
 use Rattle.number_rules.proofs.SineSize.{cosine-most}
-use Rattle.sum_rules.specs.Instant.{furthest, millennium, u}
+use Rattle.numbers.proofs.Machine.{Mirror, gave}
+use Rattle.sum_rules.specs.Instant.{Reached, furthest, millennium, u}
 use Rattle.sum_rules.specs.Sun.{down, group, phase, row-A, row-B, row-C, row-angle, row-value, series}
 use Rattle.sums.specs.SunRange.{SmallRay, Summable, spread}
 use Rattle.sum_rules.specs.SunTerms.{B-groups, B0, B1, L-groups, L0, L1, L2, L3, L4, L5, R-groups, R0, R1, R2, R3, R4}
 use Rattle.sum_rules.specs.Table.{count}
+use Rattle.sum_rules.specs.declared.instant.Powers.{Powers}
 use Rattle.sum_rules.proofs.ConstantRows.{angle-zero, cosine-zero}
 use Rattle.sums.proofs.InstantLaws.{floor-size, u-most}
+use Rattle.sums.proofs.SumLoop.{Summing}
 use Rattle.sums.proofs.TableLaws.{total-size}
 
 -- a row (A, 0, 0) is 100 A
@@ -50,7 +52,7 @@ constant-value n row h =
     second : (b c : ℕ) → b + c ≡ 0 → c ≡ 0
     second b c h = omega arith
 
--- the remainder of a turn, in units, is within a turn
+-- the remainder of a turn, in units, is no more than a turn
 pub row-angle-small : (n : ℤ) (b c : ℕ) → row-angle n b c ≤ full-turn
 unfolding row-angle
 row-angle-small n b c = go ((pos b +ℤ phase n c) modulo 628_318_531) (modulo-below (pos b +ℤ phase n c) (zero-lt-suc 628_318_530))
@@ -68,6 +70,9 @@ row-value-most n row =
   where
     below : (a : ℕ) → a * 1_000_000_001 / 10_000_000 + 1 ≤ 101 * a + 1
     below a = omega arith
+
+pub group-summing : (n : ℤ) (rows : List (List ℕ)) → Summable rows → Summing (row-value n) rows (2 ^ 46)
+group-summing n rows fit = record { size = spread; sized = row-value-most n; fit = fit .all }
 
 pub group-most : (n : ℤ) (rows : List (List ℕ)) → natAbs (group n rows) ≤ count spread rows
 group-most n rows = total-size (row-value n) spread (row-value-most n) rows
@@ -147,37 +152,53 @@ fits-group rows t =
       all = leb→le (count spread rows) (2 ^ 46) (t₁ .1);
     }
 
--- every group of a series fits, v into group 0 is at most 2⁴⁶, and v above that at most 2⁴²
-unfoldable pub steady : List (List (List ℕ)) → Bool
-steady [] = true
-steady (rows ∷ above) = leb (level (rows ∷ above)) (2 ^ 42) && steady above
+-- how large v may be that group k is handed: 2⁴⁶ into group 0, and 2⁴² above it
+abbrev pub top : ℕ → ℕ
+top zero = 2 ^ 46
+top (suc k) = 2 ^ 42
+
+unfoldable pub steady : (ℕ → ℕ) → List (List (List ℕ)) → Bool
+steady most [] = true
+steady most (rows ∷ others) = leb (level (rows ∷ others)) (most 0) && steady (λ k. most (suc k)) others
 
 unfoldable pub series-test : List (List (List ℕ)) → Bool
-series-test groups = every (λ _. fits-test) [] 0 groups && (leb (level (drop 1 groups)) (2 ^ 46) && steady (drop 2 groups))
+series-test groups = every (λ _. fits-test) [] 0 groups && steady top (drop 1 groups)
 
+-- every group of a series fits, and so does what each is handed
 pub record Sound (groups : List (List (List ℕ))) : Type 0 where
-  pub each : (i : ℕ) → i < length groups → Summable (getD groups i [])
-  pub first : (n : ℤ) → natAbs n ≤ furthest → natAbs (down n (drop 1 groups)) ≤ 2 ^ 46
-  pub deeper : (n : ℤ) → natAbs n ≤ furthest → (k : ℕ) → natAbs (down n (drop k (drop 2 groups))) ≤ 2 ^ 42
+  pub each : (k : ℕ) → k < length groups → Summable (getD groups k [])
+  pub above : (n : ℤ) → natAbs n ≤ furthest → (k : ℕ) → natAbs (down n (drop k (drop 1 groups))) ≤ top k
 
-steady-most : (n : ℤ) → natAbs n ≤ furthest → (groups : List (List (List ℕ))) → T (steady groups) → (k : ℕ) → natAbs (down n (drop k groups)) ≤ 2 ^ 42
-unfolding steady down
-steady-most n h [] t zero = zero-le
-steady-most n h [] t (suc k) = zero-le
-steady-most n h (rows ∷ above) t zero =
-    le-trans (down-most n h (rows ∷ above)) (leb→le (level (rows ∷ above)) (2 ^ 42) (and-yes (leb (level (rows ∷ above)) (2 ^ 42)) (steady above) t .0))
-steady-most n h (rows ∷ above) t (suc k) = steady-most n h above (and-yes (leb (level (rows ∷ above)) (2 ^ 42)) (steady above) t .1) k
+module _ (n : ℤ) (h : natAbs n ≤ furthest) where
+  steady-most : (most : ℕ → ℕ) (groups : List (List (List ℕ))) → T (steady most groups) → (k : ℕ) → natAbs (down n (drop k groups)) ≤ most k
+  unfolding steady down
+  steady-most most [] t zero = zero-le
+  steady-most most [] t (suc k) = zero-le
+  steady-most most (rows ∷ others) t zero =
+      le-trans (down-most n h (rows ∷ others)) (leb→le (level (rows ∷ others)) (most 0) (and-yes (leb (level (rows ∷ others)) (most 0)) _ t .0))
+  steady-most most (rows ∷ others) t (suc k) =
+      steady-most (λ k. most (suc k)) others (and-yes (leb (level (rows ∷ others)) (most 0)) _ t .1) k
 
 sound : (groups : List (List (List ℕ))) → T (series-test groups) → Sound groups
 unfolding series-test
 sound groups t =
     let t₁ = and-yes (every (λ _. fits-test) [] 0 groups) _ t in
-    let t₂ = and-yes (leb (level (drop 1 groups)) (2 ^ 46)) _ (t₁ .1) in
     record {
-      each = λ i h. fits-group (getD groups i []) (at (λ _. fits-test) [] groups (t₁ .0) i h);
-      first = λ n h. le-trans (down-most n h (drop 1 groups)) (leb→le (level (drop 1 groups)) (2 ^ 46) (t₂ .0));
-      deeper = λ n h k. steady-most n h (drop 2 groups) (t₂ .1) k;
+      each = λ k h. fits-group (getD groups k []) (at (λ _. fits-test) [] groups (t₁ .0) k h);
+      above = λ n h k. steady-most n h top (drop 1 groups) (t₁ .1) k;
     }
+
+module _ {groups : List (List (List ℕ))} (sound : Sound groups) (k : ℕ) where
+  -- group k of a series, lent
+  pub lent-fits : T (ltb k (length groups)) → {lent : List (List ℕ)} → lent ≡ getD groups k [] → Summable lent
+  lent-fits t e = subst⁻¹ Summable e (sound .each k (ltb→lt k (length groups) t))
+
+  -- v for group k: what `onto` gave of the group above it, lent, and of v for that one
+  abbrev pub onto-gave : {t : Powers} → Reached t → T (ltb k (length (drop 1 groups))) → {r v : ℤ} {lent : List (List ℕ)} → mag r < 2 ^ 63
+      → r ≡ group (t .n) lent +ℤ ⌊ v *ℤ u (t .n) ÷ 10_000_000 ⌋ → lent ≡ getD (drop 1 groups) k [] → v ≡ down (t .n) (drop (suc k) (drop 1 groups)) → Mirror
+  onto-gave {t} reached inside ok e a b =
+      gave ok (down-is (t .n) (getD (drop 1 groups) k []) (drop (suc k) (drop 1 groups)) e a b
+      ∙ ap (down (t .n)) (sym (drop-cons (drop 1 groups) k [] (ltb→lt k (length (drop 1 groups)) inside)))) (sound .above (t .n) (reached .near) k)
 
 pub L-sound : Sound L-groups
 unfolding series-test fits-test small-test steady level count L0 L1 L2 L3 L4 L5

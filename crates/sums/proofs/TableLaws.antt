@@ -46,16 +46,16 @@ module _ {A : Type 0} where
       subst (λ (r : List A). natAbs (total f r) ≤ count g rows) (take-all rows (length rows) (le-refl (length rows)))
       (total-most f g h rows (length rows))
 
--- a row within its bounds, by a test of the columns 0, 1, ..
-abbrev pub within-bound : List ℤ → ℕ → ℕ → Bool
-within-bound row i bound = leb (natAbs (column row i)) bound
+-- a row that keeps to its bounds, by a test of the columns 0, 1, ..
+abbrev pub column-test : List ℤ → ℕ → ℕ → Bool
+column-test row i bound = leb (natAbs (column row i)) bound
 
 unfoldable pub bounded-test : List ℕ → ℕ → List ℤ → Bool
-bounded-test bounds k row = every (within-bound row) 0 0 bounds
+bounded-test bounds k row = every (column-test row) 0 0 bounds
 
 pub bounded-row : (bounds : List ℕ) (k : ℕ) (row : List ℤ) → T (bounded-test bounds k row) → Bounded bounds row
 unfolding bounded-test
-bounded-row bounds k row t = record { each = λ i h. leb→le (natAbs (column row i)) (getD bounds i 0) (at (within-bound row) 0 bounds t i h) }
+bounded-row bounds k row t = record { each = λ i h. leb→le (natAbs (column row i)) (getD bounds i 0) (at (column-test row) 0 bounds t i h) }
 
 -- and so for each row of a table
 pub bounded-rows : (bounds : List ℕ) (rows : List (List ℤ)) → T (every (bounded-test bounds) [] 0 rows) → (i : ℕ) → i < length rows → Bounded bounds (getD rows i [])

@@ -1,3 +1,4 @@
+pub mod TermRange
 pub mod MoonRange
 pub mod SunRange
 pub mod NutationRange

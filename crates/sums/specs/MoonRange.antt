@@ -1,14 +1,10 @@
--- What keeps the Moon's sums within 64 bits: arguments within a turn, E and E2 little above a million, and tables whose weights add up to little.
+-- What keeps the Moon's sums within 64 bits: E and E2 little above a million, and tables whose weights add up to little.
 use mathlib.Core.List.{List, [], _∷_}
 use Prim.Native.Nat.{ℕ, _+_, _*_, _^_, _≤_, _<_}
 use lib.IntN.{ℤ, natAbs}
 use lib.ListN.{getD, length}
-use Rattle.number_rules.specs.Angle.{full-turn}
 use Rattle.sum_rules.specs.Table.{Bounded, column, count}
 use Rattle.sum_rules.specs.declared.moon.Eccentricity.{Eccentricity}
-
-pub record Turns (arguments : List ℤ) : Type 0 where
-  pub within : (i : ℕ) → natAbs (column arguments i) ≤ full-turn
 
 pub record Slight (e : Eccentricity) : Type 0 where
   pub once : natAbs (e .e) ≤ 2 ^ 20

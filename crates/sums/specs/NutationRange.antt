@@ -6,7 +6,7 @@ use lib.ListN.{getD, length}
 use Rattle.sum_rules.specs.Table.{Bounded, column, count}
 
 abbrev pub row-bounds : List ℕ
-row-bounds = 3 ∷ 3 ∷ 3 ∷ 3 ∷ 3 ∷ 2 ^ 18 ∷ 2 ^ 18 ∷ 2 ^ 18 ∷ 2 ^ 18 ∷ []
+row-bounds = 4 ∷ 4 ∷ 4 ∷ 4 ∷ 4 ∷ 2 ^ 18 ∷ 2 ^ 18 ∷ 2 ^ 18 ∷ 2 ^ 18 ∷ []
 
 abbrev pub SmallRow : List ℤ → Type 0
 SmallRow row = Bounded row-bounds row

@@ -1,5 +1,5 @@
 -- What keeps the Sun's sums within 64 bits: a row that moves has a small A, and a group's A add up to little.
-use mathlib.Core.List.{List, [], _∷_}
+use mathlib.Core.List.{List, []}
 use Prim.Native.Nat.{ℕ, _+_, _*_, _^_, _≤_, _<_}
 use lib.ListN.{getD, length}
 use Rattle.sum_rules.specs.Table.{count}

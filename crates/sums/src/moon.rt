@@ -1,18 +1,19 @@
 // The Moon's sums: longitude, latitude and distance from the Earth's centre, before nutation.
-use sum_rules::moon::Eccentricity;
-use sum_rules::instant::Polynomial;
-use sum_rules::instant::Powers;
 use super::instant::powers_at;
 use super::instant::value_at;
-use sum_tables::moon_terms::latitude_terms;
-use sum_tables::moon_terms::longitude_distance_terms;
 use super::terms::TermSums;
-use super::terms::cosine_term;
+use super::terms::angle_of;
+use super::terms::weighted;
 use numbers::angle::Angle;
 use numbers::sine::sine_in;
 use numbers::sine_table::table;
 use numbers::whole::absolute;
 use numbers::whole::floor_div;
+use sum_rules::instant::Polynomial;
+use sum_rules::instant::Powers;
+use sum_rules::moon::Eccentricity;
+use sum_tables::moon_terms::latitude_terms;
+use sum_tables::moon_terms::longitude_distance_terms;
 ghost use mathlib.Core.Path.{_≡_};
 ghost use Prim.Native.Nat.{_≤_, _^_};
 ghost use lib.IntN.{natAbs};
@@ -20,8 +21,9 @@ ghost use Rattle.number_rules.specs.SineTable.{sines};
 ghost use Rattle.sum_rules.specs.Instant.{furthest, Reached};
 ghost use Rattle.sum_rules.specs.Accuracy.{MoonNear};
 ghost use Rattle.sum_rules.specs.Table.{total};
-ghost use Rattle.sum_rules.specs.Moon.{arguments, eccentricity, weight, row-angle, sine-term, cosine-term, added, longitude-added, latitude-added, longitude, latitude, metres};
-ghost use Rattle.sums.specs.MoonRange.{Turns, Slight, SmallRow, Summable};
+ghost use Rattle.sum_rules.specs.Moon.{arguments, eccentricity, weight, sine-term, cosine-term, added, longitude-added, latitude-added, longitude, latitude, metres};
+ghost use Rattle.sums.specs.MoonRange.{Slight, SmallRow, Summable};
+ghost use Rattle.sums.specs.TermRange.{Turns};
 
 // L'.
 const MEAN_LONGITUDE: Polynomial = Polynomial {
@@ -141,11 +143,13 @@ fn eccentricity_at(t: Powers) -> Eccentricity
     Eccentricity { e, e2 }
 }
 
-// A row's weight: E to the power of |m|.
-fn weight(e: Eccentricity, m: u64, l: i64) -> i64
-    requires { ⌜ Slight e × (natAbs l ≤ 2 ^ 31) ⌝ }
-    ensures { λ r. ⌜ r ≡ weight e m l ⌝ }
+// A row's weight: l times E to the power of |m|.
+fn weight(e: Eccentricity, m: i32, l: i32) -> i64
+    requires { ⌜ Slight e × ((natAbs m ≤ 4) × (natAbs l ≤ 2 ^ 25)) ⌝ }
+    ensures { λ r. ⌜ r ≡ weight e (natAbs m) l ⌝ }
 {
+    let m = absolute(m as i64);
+    let l = l as i64;
     if m == 0 {
         100 * l
     } else if m == 1 {
@@ -155,26 +159,15 @@ fn weight(e: Eccentricity, m: u64, l: i64) -> i64
     }
 }
 
-fn row_angle(arguments: [i64; 5], row: [i32; 6]) -> i64
-    requires { ⌜ Turns arguments × SmallRow row ⌝ }
-    ensures { λ r. ⌜ r ≡ row-angle arguments row ⌝ }
-{
-    row[0] as i64 * arguments[1]
-        + row[1] as i64 * arguments[2]
-        + row[2] as i64 * arguments[3]
-        + row[3] as i64 * arguments[4]
-}
-
-// One row by sine and by cosine.
+// One row by sine and by cosine. No row's angle has L' in it.
 fn row_terms(table: &[u32; 361], arguments: [i64; 5], e: Eccentricity, row: [i32; 6]) -> TermSums
     requires { ⌜ (now table ≡ sines) × (Turns arguments × (Slight e × SmallRow row)) ⌝ }
     ensures { λ r. ⌜ (r .sine ≡ sine-term arguments e row) × (r .cosine ≡ cosine-term arguments e row) ⌝ }
 {
-    let angle = row_angle(arguments, row);
-    let m = absolute(row[1] as i64);
-    let sine = weight(e, m, row[4] as i64) * sine_in(table, angle);
-    let cosine = cosine_term(table, weight(e, m, row[5] as i64), angle);
-    TermSums { sine, cosine }
+    let angle = angle_of(arguments, [0, row[0], row[1], row[2], row[3]]);
+    let first = weight(e, row[1], row[4]);
+    let second = weight(e, row[1], row[5]);
+    weighted(table, first, second, angle)
 }
 
 // All rows of a table by sine and by cosine.
@@ -220,18 +213,21 @@ fn longitude_added(table: &[u32; 361], sum: i64, arguments: [i64; 5], a1: i64, a
         + added(table, 318, a2)
 }
 
-// The latitude's rows and what is added to them.
+// The latitude's rows and what is added to them: L' is the mean longitude, M' the anomaly, F is from the node.
 fn latitude_added(table: &[u32; 361], sum: i64, arguments: [i64; 5], a1: i64, a3: i64) -> i64
     requires { ⌜ (now table ≡ sines) × ((natAbs sum ≤ 2 ^ 62) × (Turns arguments × (natAbs a1 ≤ 2 ^ 36))) ⌝ }
     ensures { λ r. ⌜ r ≡ latitude-added sum arguments a1 a3 ⌝ }
 {
+    let mean = arguments[0];
+    let anomaly = arguments[3];
+    let node = arguments[4];
     sum
-        + added(table, -2235, arguments[0])
+        + added(table, -2235, mean)
         + added(table, 382, a3)
-        + added(table, 175, a1 - arguments[4])
-        + added(table, 175, a1 + arguments[4])
-        + added(table, 127, arguments[0] - arguments[3])
-        + added(table, -115, arguments[0] + arguments[3])
+        + added(table, 175, a1 - node)
+        + added(table, 175, a1 + node)
+        + added(table, 127, mean - anomaly)
+        + added(table, -115, mean + anomaly)
 }
 
 // The Moon at TT, over a lent sine table and the powers of the instant.

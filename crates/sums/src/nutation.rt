@@ -1,19 +1,19 @@
 // Nutation and obliquity.
+use super::instant::value_at;
+use super::terms::TermSums;
+use super::terms::angle_of;
+use super::terms::weighted;
+use numbers::whole::floor_div;
 use sum_rules::instant::Polynomial;
 use sum_rules::instant::Powers;
-use super::instant::value_at;
 use sum_tables::nutation_terms::nutation_terms;
-use super::terms::TermSums;
-use super::terms::cosine_term;
-use numbers::sine::sine_in;
-use numbers::whole::floor_div;
 ghost use mathlib.Core.Path.{_≡_};
 ghost use Prim.Native.Nat.{_≤_, _^_};
 ghost use lib.IntN.{natAbs, _+ℤ_};
 ghost use Rattle.number_rules.specs.SineTable.{sines};
 ghost use Rattle.sum_rules.specs.Instant.{Reached};
 ghost use Rattle.sum_rules.specs.Table.{total};
-ghost use Rattle.sums.specs.MoonRange.{Turns};
+ghost use Rattle.sums.specs.TermRange.{Turns};
 ghost use Rattle.sum_rules.specs.Nutation.{arguments, row-angle, weight, sine-term, cosine-term, Δψ, Δε, mean-obliquity};
 ghost use Rattle.sums.specs.NutationRange.{SmallRow, Summable};
 
@@ -96,18 +96,14 @@ fn row_angle(arguments: [i64; 5], row: [i32; 9]) -> i64
     requires { ⌜ Turns arguments × SmallRow row ⌝ }
     ensures { λ r. ⌜ r ≡ row-angle arguments row ⌝ }
 {
-    row[0] as i64 * arguments[0]
-        + row[1] as i64 * arguments[1]
-        + row[2] as i64 * arguments[2]
-        + row[3] as i64 * arguments[3]
-        + row[4] as i64 * arguments[4]
+    angle_of(arguments, [row[0], row[1], row[2], row[3], row[4]])
 }
 
-fn weight(u: i64, a: i64, b: i64) -> i64
-    requires { ⌜ (natAbs u ≤ 2 ^ 20) × ((natAbs a ≤ 2 ^ 31) × (natAbs b ≤ 2 ^ 31)) ⌝ }
+fn weight(u: i64, a: i32, b: i32) -> i64
+    requires { ⌜ (natAbs u ≤ 2 ^ 20) × ((natAbs a ≤ 2 ^ 18) × (natAbs b ≤ 2 ^ 18)) ⌝ }
     ensures { λ r. ⌜ r ≡ weight u a b ⌝ }
 {
-    10 * a + floor_div(b * u, 1_000_000)
+    10 * a as i64 + floor_div(b as i64 * u, 1_000_000)
 }
 
 // One row by sine and by cosine.
@@ -116,9 +112,9 @@ fn row_terms(table: &[u32; 361], arguments: [i64; 5], u: i64, row: [i32; 9]) -> 
     ensures { λ r. ⌜ (r .sine ≡ sine-term arguments u row) × (r .cosine ≡ cosine-term arguments u row) ⌝ }
 {
     let angle = row_angle(arguments, row);
-    let sine = weight(u, row[5] as i64, row[6] as i64) * sine_in(table, angle);
-    let cosine = cosine_term(table, weight(u, row[7] as i64, row[8] as i64), angle);
-    TermSums { sine, cosine }
+    let first = weight(u, row[5], row[6]);
+    let second = weight(u, row[7], row[8]);
+    weighted(table, first, second, angle)
 }
 
 // All rows by sine and by cosine.

@@ -1,12 +1,12 @@
 // Sidereal time at Greenwich, of UT.
-use sum_rules::instant::DAY;
-use sum_rules::instant::Instant;
-use sum_rules::instant::Powers;
 use super::instant::powers_at;
 use numbers::angle::Angle;
 use numbers::sine::cosine_in;
 use numbers::whole::floor_div;
 use numbers::whole::mul_div;
+use sum_rules::instant::DAY;
+use sum_rules::instant::Instant;
+use sum_rules::instant::Powers;
 ghost use mathlib.Core.Path.{_≡_};
 ghost use Prim.Native.Nat.{_≤_, _^_};
 ghost use lib.IntN.{natAbs};

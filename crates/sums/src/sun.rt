@@ -1,7 +1,12 @@
 // The Sun's sums: the Earth's heliocentric longitude L, latitude B and radius R, in 10⁻¹⁰ radian or AU, before any turn is taken off.
+use super::instant::powers_at;
+use numbers::sine::cosine_in;
+use numbers::sine_table::table;
+use numbers::whole::floor_div;
+use numbers::whole::floor_mod;
+use numbers::whole::mul_div;
 use sum_rules::instant::CENTURY;
 use sum_rules::instant::Powers;
-use super::instant::powers_at;
 use sum_tables::sun_terms::b0;
 use sum_tables::sun_terms::b1;
 use sum_tables::sun_terms::l0;
@@ -15,11 +20,6 @@ use sum_tables::sun_terms::r1;
 use sum_tables::sun_terms::r2;
 use sum_tables::sun_terms::r3;
 use sum_tables::sun_terms::r4;
-use numbers::sine::cosine_in;
-use numbers::sine_table::table;
-use numbers::whole::floor_div;
-use numbers::whole::floor_mod;
-use numbers::whole::mul_div;
 ghost use mathlib.Core.Path.{_≡_};
 ghost use Prim.Native.Nat.{_≤_, _^_};
 ghost use lib.IntN.{pos, natAbs, _+ℤ_, _*ℤ_};

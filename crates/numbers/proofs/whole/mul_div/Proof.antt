@@ -1,6 +1,6 @@
 -- `numbers::whole::mul_div` meets its contract. Each local is mirrored once; the products by the base are bounded by the quotient.
 use mathlib.Core.Path.{_∙_, _≡_, ap, subst, sym}
-use Prim.Native.Nat.{_+_, _<_, _^_, _≤_, ℕ}
+use Prim.Native.Nat.{_+_, _^_, _≤_, ℕ}
 use native.Mathlib.Nat.{le-trans}
 use native.Mathlib.Omega.{arith}
 use lib.Dec.{lit<}

@@ -9,12 +9,9 @@ use Rattle.sum_rules.specs.Instant.{furthest}
 use Rattle.sums.proofs.instant.is_within_reach.Statement.{statement}
 use Rattle.sums.proofs.instant.is_within_reach.Tie as tie
 
-absolute-requires : tie.Need-absolute-requires
-absolute-requires c κs = search needs
-
 returns : tie.Need-returns
 returns c =
     ap (λ (m : ℕ). leb m furthest) (c .absolute .ensures ∙ ap natAbs (any (c .before .fits .n) .same))
 
 pub is-within-reach-spec : {M : Type 1} → statement M
-is-within-reach-spec = tie.close (tie.spec absolute-requires returns)
+is-within-reach-spec = tie.close (tie.spec (λ c κs. search needs) returns)

@@ -24,30 +24,6 @@ p3-mirror c = floor-gave (kept (p2-mirror (c .before) ⊗ u-mirror (c .before .b
 abbrev p4-mirror : tie.After-floor-div4 → Mirror
 p4-mirror c = floor-gave (kept (p2-mirror (c .before .before) ⊗ p2-mirror (c .before .before)) tt) 1_000_000 (c .floor-div4 .ok) (c .floor-div4 .ensures)
 
-mul-floor-div : tie.Need-mul-floor-div
-mul-floor-div c = fits (scaled c) tt
-
-floor-div-requires : tie.Need-floor-div-requires
-floor-div-requires c κs = search needs
-
-mul-floor-div-2 : tie.Need-mul-floor-div-2
-mul-floor-div-2 c = fits (u-mirror c ⊗ u-mirror c) tt
-
-floor-div-requires-2 : tie.Need-floor-div-requires-2
-floor-div-requires-2 c κs = search needs
-
-mul-floor-div-3 : tie.Need-mul-floor-div-3
-mul-floor-div-3 c = fits (p2-mirror c ⊗ u-mirror (c .before)) tt
-
-floor-div-requires-3 : tie.Need-floor-div-requires-3
-floor-div-requires-3 c κs = search needs
-
-mul-floor-div-4 : tie.Need-mul-floor-div-4
-mul-floor-div-4 c = fits (p2-mirror (c .before) ⊗ p2-mirror (c .before)) tt
-
-floor-div-requires-4 : tie.Need-floor-div-requires-4
-floor-div-requires-4 c κs = search needs
-
 returns : tie.Need-returns
 unfolding u p2 p3 p4
 returns c = λ i. record {
@@ -62,12 +38,6 @@ pub powers-at-spec : {M : Type 1} → statement M
 powers-at-spec =
     tie.close
     (tie.spec
-    mul-floor-div
-    floor-div-requires
-    mul-floor-div-2
-    floor-div-requires-2
-    mul-floor-div-3
-    floor-div-requires-3
-    mul-floor-div-4
-    floor-div-requires-4
-    returns)
+    (λ c. fits (scaled c) tt) (λ c κs. search needs) (λ c. fits (u-mirror c ⊗ u-mirror c) tt) (λ c κs. search needs)
+    (λ c. fits (p2-mirror c ⊗ u-mirror (c .before)) tt) (λ c κs. search needs) (λ c. fits (p2-mirror (c .before) ⊗ p2-mirror (c .before)) tt)
+    (λ c κs. search needs) returns)

@@ -6,11 +6,5 @@ use Rattle.sums.proofs.instant.terrestrial_time.Tie as tie
 abbrev sum : tie.Start → Mirror
 sum c = arg (c .fits .ut) (c .pre .0) ⊕ arg (c .fits .delta) (c .pre .1)
 
-add-result : tie.Need-add-result
-add-result c = fits (sum c) tt
-
-returns : tie.Need-returns
-returns c = kept (sum c) tt .same
-
 pub terrestrial-time-spec : {M : Type 1} → statement M
-terrestrial-time-spec = tie.close (tie.spec add-result returns)
+terrestrial-time-spec = tie.close (tie.spec (λ c. fits (sum c) tt) (λ c. kept (sum c) tt .same))

@@ -19,26 +19,9 @@ with-day c = kept (from-noon c) tt ⊕ arg (c .fits .elapsed) (c .pre .1 .0)
 abbrev sum : tie.Start → Mirror
 sum c = kept (with-day c) tt ⊕ arg (c .fits .ut1) (c .pre .1 .1)
 
-cast-result : tie.Need-cast-result
-cast-result c = search needs
-
-mul-result : tie.Need-mul-result
-mul-result c = fits (days-part c) tt
-
-cast-result-2 : tie.Need-cast-result-2
-cast-result-2 c = search needs
-
-sub-result : tie.Need-sub-result
-sub-result c = fits (from-noon c) tt
-
-add-result : tie.Need-add-result
-add-result c = fits (with-day c) tt
-
-add-result-2 : tie.Need-add-result-2
-add-result-2 c = fits (sum c) tt
-
-returns : tie.Need-returns
-returns c = kept (sum c) tt .same
-
 pub universal-time-spec : {M : Type 1} → statement M
-universal-time-spec = tie.close (tie.spec cast-result mul-result cast-result-2 sub-result add-result add-result-2 returns)
+universal-time-spec =
+    tie.close
+    (tie.spec
+    (λ c. search needs) (λ c. fits (days-part c) tt) (λ c. search needs) (λ c. fits (from-noon c) tt) (λ c. fits (with-day c) tt)
+    (λ c. fits (sum c) tt) (λ c. kept (sum c) tt .same))

@@ -2,16 +2,15 @@
 use mathlib.Core.Path.{_∙_, _≡_, ap, refl}
 use Prim.Native.Nat.{_≤_}
 use native.Mathlib.Omega.{arith}
-use lib.IntN.{natAbs, pos, ℤ}
+use lib.IntN.{pos, ℤ}
 use borrow.Author.Needs.{needs}
 use Rattle.number_rules.specs.Angle.{full-turn, reduced}
 use Rattle.numbers.proofs.Machine.{Mirror, _⊕_, _⊗_, fits, floor-gave, from-nat, kept, lit, nat-fits, small-floor-gave, told}
 use Rattle.number_rules.proofs.SineLaws.{reduced-below}
 use Rattle.numbers.proofs.WideProduct.{mul-div-asked, mul-div-gave}
-use Rattle.sum_rules.specs.Instant.{century, furthest, value}
+use Rattle.sum_rules.specs.Instant.{century, value}
 use Rattle.sum_rules.specs.declared.instant.Polynomial.{Polynomial}
-use Rattle.sum_rules.specs.declared.instant.Powers.{Powers}
-use Rattle.sums.proofs.InstantLaws.{p2-most, p3-most, p4-most}
+use Rattle.sums.proofs.InstantLaws.{instant-told, p2-told, p3-told, p4-told}
 use Rattle.sums.proofs.instant.value_at.Statement.{statement}
 use Rattle.sums.proofs.instant.value_at.Tie as tie
 
@@ -34,41 +33,26 @@ module _ (s : tie.Start) where
   abbrev n : ℤ
   n = s .args .t .n
 
-  abbrev near : natAbs n ≤ furthest
-  near = s .pre .1 .near
-
-  abbrev n-mirror : Mirror
-  n-mirror = told {r = n} refl near tt
-
-  abbrev p2-mirror : Mirror
-  p2-mirror = told (ap (λ (t : Powers). t .p2) (s .pre .1 .is)) (p2-most n near) tt
-
-  abbrev p3-mirror : Mirror
-  p3-mirror = told (ap (λ (t : Powers). t .p3) (s .pre .1 .is)) (p3-most n near) tt
-
-  abbrev p4-mirror : Mirror
-  p4-mirror = told (ap (λ (t : Powers). t .p4) (s .pre .1 .is)) (p4-most n near) tt
-
   abbrev c1-mirror : Mirror
   c1-mirror = told {r = p .c1} refl (s .pre .0 .c1-small) tt
 
   abbrev second-product : Mirror
-  second-product = told {r = p .c2} refl (s .pre .0 .c2-small) tt ⊗ p2-mirror
+  second-product = told {r = p .c2} refl (s .pre .0 .c2-small) tt ⊗ p2-told (s .pre .1)
 
   abbrev third-factor : Mirror
   third-factor = lit (pos 100) ⊗ told {r = p .s3} refl (s .pre .0 .s3-small) tt
 
   abbrev third-product : Mirror
-  third-product = kept third-factor tt ⊗ p3-mirror
+  third-product = kept third-factor tt ⊗ p3-told (s .pre .1)
 
   abbrev fourth-factor : Mirror
   fourth-factor = lit (pos 100) ⊗ told {r = p .s4} refl (s .pre .0 .s4-small) tt
 
   abbrev fourth-product : Mirror
-  fourth-product = kept fourth-factor tt ⊗ p4-mirror
+  fourth-product = kept fourth-factor tt ⊗ p4-told (s .pre .1)
 
 abbrev first : tie.After-mul-div → Mirror
-first c = mul-div-gave (c1-mirror (from-first c)) (n-mirror (from-first c)) century (c .mul-div .ok) (c .mul-div .ensures)
+first c = mul-div-gave (c1-mirror (from-first c)) (instant-told (from-first c .pre .1)) century (c .mul-div .ok) (c .mul-div .ensures)
 
 abbrev second : tie.After-floor-div → Mirror
 second c = floor-gave (kept (second-product (from-first (from-second c))) tt) 1_000_000 (c .floor-div .ok) (c .floor-div .ensures)
@@ -97,13 +81,10 @@ module _ (c : tie.After-floor-div3) where
   sum4 = kept sum3 tt ⊕ fourth c
 
 mul-div-requires : tie.Need-mul-div-requires
-mul-div-requires c κs = mul-div-asked (c1-mirror (c .before .before)) (n-mirror (c .before .before)) century tt
+mul-div-requires c κs = mul-div-asked (c1-mirror (c .before .before)) (instant-told (c .before .before .pre .1)) century tt
 
 mul-floor-div : tie.Need-mul-floor-div
 mul-floor-div c = fits (second-product (from-first (c .before .before .before .before))) tt
-
-floor-div-requires : tie.Need-floor-div-requires
-floor-div-requires c κs = search needs
 
 mul-floor-div-2 : tie.Need-mul-floor-div-2
 mul-floor-div-2 c = fits (third-factor (from-first (from-second (c .before .before)))) tt
@@ -123,21 +104,6 @@ mul-floor-div-5 c = fits (fourth-product (from-first (from-second (from-third (c
 floor-div-requires-3 : tie.Need-floor-div-requires-3
 floor-div-requires-3 c κs = from-first (from-second (from-third (c .before .before .before .before))) .pre .0 .k4-above
 
-add-new : tie.Need-add-new
-add-new c = fits (sum1 (c .before .before)) tt
-
-add-new-2 : tie.Need-add-new-2
-add-new-2 c = fits (sum2 (c .before .before)) tt
-
-add-new-3 : tie.Need-add-new-3
-add-new-3 c = fits (sum3 (c .before .before)) tt
-
-add-new-4 : tie.Need-add-new-4
-add-new-4 c = fits (sum4 (c .before .before)) tt
-
-new-requires : tie.Need-new-requires
-new-requires c κs = search needs
-
 -- the reduced angle
 units-are : (c : tie.After-new) → c .new .result .units ≡ value (p (begun (c .before .before .before))) (n (begun (c .before .before .before)))
 unfolding value
@@ -155,5 +121,8 @@ returns c = from-nat (units-small (c .before)) tt .same ∙ ap pos (units-are (c
 
 pub value-at-spec : {M : Type 1} → statement M
 value-at-spec =
-    tie.close (tie.spec mul-div-requires mul-floor-div floor-div-requires mul-floor-div-2 mul-floor-div-3 floor-div-requires-2 mul-floor-div-4
-    mul-floor-div-5 floor-div-requires-3 add-new add-new-2 add-new-3 add-new-4 new-requires cast-result returns)
+    tie.close
+    (tie.spec
+    mul-div-requires mul-floor-div (λ c κs. search needs) mul-floor-div-2 mul-floor-div-3 floor-div-requires-2 mul-floor-div-4 mul-floor-div-5
+    floor-div-requires-3 (λ c. fits (sum1 (c .before .before)) tt) (λ c. fits (sum2 (c .before .before)) tt) (λ c. fits (sum3 (c .before .before)) tt)
+    (λ c. fits (sum4 (c .before .before)) tt) (λ c κs. search needs) cast-result returns)

@@ -16,17 +16,5 @@ product c =
     kept (factor (c .before)) tt
     ⊗ gave (c .sine-in .ok) (c .sine-in .ensures ∙ ap sine (any (c .before .fits .angle) .same)) (sine-most (c .before .args .angle))
 
-mul-result : tie.Need-mul-result
-mul-result c = fits (factor c) tt
-
-sine-in-requires : tie.Need-sine-in-requires
-sine-in-requires c κs = search needs
-
-mul-result-2 : tie.Need-mul-result-2
-mul-result-2 c = fits (product c) tt
-
-returns : tie.Need-returns
-returns c = kept (product c) tt .same
-
 pub added-spec : {M : Type 1} → statement M
-added-spec = tie.close (tie.spec mul-result sine-in-requires mul-result-2 returns)
+added-spec = tie.close (tie.spec (λ c. fits (factor c) tt) (λ c κs. search needs) (λ c. fits (product c) tt) (λ c. kept (product c) tt .same))

@@ -5,21 +5,6 @@ use Rattle.numbers.proofs.Machine.{passed}
 use Rattle.sums.proofs.moon.arguments.Statement.{statement}
 use Rattle.sums.proofs.moon.arguments.Tie as tie
 
-value-at-requires : tie.Need-value-at-requires
-value-at-requires c κs = search needs
-
-value-at-requires-2 : tie.Need-value-at-requires-2
-value-at-requires-2 c κs = search needs
-
-value-at-requires-3 : tie.Need-value-at-requires-3
-value-at-requires-3 c κs = search needs
-
-value-at-requires-4 : tie.Need-value-at-requires-4
-value-at-requires-4 c κs = search needs
-
-value-at-requires-5 : tie.Need-value-at-requires-5
-value-at-requires-5 c κs = search needs
-
 returns : tie.Need-returns
 returns c = λ i.
     passed (c .before .before .before .before .value-at .ok) (c .before .before .before .before .value-at .ensures) i
@@ -30,4 +15,5 @@ returns c = λ i.
     ∷ []
 
 pub arguments-spec : {M : Type 1} → statement M
-arguments-spec = tie.close (tie.spec value-at-requires value-at-requires-2 value-at-requires-3 value-at-requires-4 value-at-requires-5 returns)
+arguments-spec =
+    tie.close (tie.spec (λ c κs. search needs) (λ c κs. search needs) (λ c κs. search needs) (λ c κs. search needs) (λ c κs. search needs) returns)

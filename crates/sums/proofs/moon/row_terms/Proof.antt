@@ -1,21 +1,21 @@
 -- `sums::moon::row_terms` meets its contract.
-use mathlib.Core.List.{List}
-use mathlib.Core.Path.{_∙_, _≡_, ap, ap₂}
-use Prim.Native.Nat.{ℕ}
-use lib.Dec.{leb→le}
-use lib.IntN.{_*ℤ_, natAbs, ℤ}
-use mir.Syntax.{w64}
+use mathlib.Core.List.{List, [], _∷_}
+use mathlib.Core.Path.{_∙_, _≡_, ap}
+use Prim.Native.Nat.{zero-le}
+use lib.IntN.{_*ℤ_, natAbs, pos, ℤ}
+use mir.Syntax.{w32, w64}
 use mir.Val.{ofZ, toZ}
 use borrow.Author.Needs.{needs}
 use Rattle.number_rules.specs.Sine.{cosine, sine}
-use Rattle.numbers.proofs.Machine.{Mirror, _⊗_, asked, fits, gave, kept, passed}
-use Rattle.number_rules.proofs.SineSize.{sine-most}
+use Rattle.numbers.proofs.Machine.{Mirror, asked, gave, passed}
 use Rattle.sum_rules.specs.Moon.{row-angle, weight}
-use Rattle.sums.specs.MoonRange.{Slight, SmallRow}
 use Rattle.sum_rules.specs.Table.{column}
 use Rattle.sum_rules.specs.declared.moon.Eccentricity.{Eccentricity}
-use Rattle.sums.proofs.MoonLaws.{weight-small}
-use Rattle.sums.proofs.NarrowMirror.{narrow, widened}
+use Rattle.sums.specs.MoonRange.{Slight, SmallRow}
+use Rattle.sums.specs.TermRange.{Few, angle-of}
+use Rattle.sums.proofs.MoonLaws.{moon-angle, weight-small}
+use Rattle.sums.proofs.NarrowMirror.{column-handed, column-most, column-same}
+use Rattle.sums.proofs.TermLaws.{five}
 use Rattle.sums.proofs.moon.row_terms.Statement.{statement}
 use Rattle.sums.proofs.moon.row_terms.Tie as tie
 
@@ -29,100 +29,77 @@ module _ (s : tie.Start) where
   abbrev row : List ℤ
   row = s .args .t4
 
-  abbrev small : SmallRow row
-  small = s .pre .1 .1 .1
-
   abbrev slight : Slight e
   slight = s .pre .1 .1 .0
 
-  abbrev m-mirror : Mirror
-  m-mirror = narrow (column row 1) (small .each 1 (leb→le 2 6 tt)) tt
+  abbrev small : SmallRow row
+  small = s .pre .1 .1 .1
 
-  abbrev sine-column : Mirror
-  sine-column = narrow (column row 4) (small .each 4 (leb→le 5 6 tt)) tt
+  abbrev multiples : List ℤ
+  multiples = pos 0 ∷ column row 0 ∷ column row 1 ∷ column row 2 ∷ column row 3 ∷ []
 
-  abbrev cosine-column : Mirror
-  cosine-column = narrow (column row 5) (small .each 5 (leb→le 6 6 tt)) tt
+  abbrev read : List ℤ
+  read = pos 0 ∷ toZ w32 (ofZ w32 (column row 0)) ∷ toZ w32 (ofZ w32 (column row 1)) ∷ toZ w32 (ofZ w32 (column row 2)) ∷ toZ w32 (ofZ w32 (column row 3)) ∷ []
 
-angle-is : (c : tie.After-row-angle) → toZ w64 (ofZ w64 (c .row-angle .result)) ≡ row-angle (args (c .before)) (row (c .before))
-angle-is c = passed (c .row-angle .ok) (c .row-angle .ensures)
+  read-is : read ≡ multiples
+  read-is = λ i. pos 0 ∷ column-same small 0 tt tt i ∷ column-same small 1 tt tt i ∷ column-same small 2 tt tt i ∷ column-same small 3 tt tt i ∷ []
 
-multiple-is : (c : tie.After-absolute) → c .absolute .result ≡ natAbs (column (row (c .before .before .before)) 1)
-multiple-is c = c .absolute .ensures ∙ ap natAbs (m-mirror (c .before .before .before) .same)
+  few : Few read
+  few = record { below = five 4 _ _ _ _ _ zero-le (column-handed small 0 tt tt) (column-handed small 1 tt tt) (column-handed small 2 tt tt) (column-handed small 3 tt tt) }
 
--- what `weight` gave for a column
-weight-is : (e : Eccentricity) {r l k : ℤ} {m n : ℕ} → r ≡ weight e m l → m ≡ n → l ≡ k → r ≡ weight e n k
-weight-is e h a b = h ∙ ap₂ (weight e) a b
+-- where the function began, from each call
+abbrev from-angle : tie.After-angle-of → tie.Start
+from-angle c = c .before .before .before .before .before
 
-abbrev sine-weight : tie.After-weight → Mirror
-sine-weight c =
-    let s = c .before .before .before .before .before in
-    gave (c .weight .ok) (weight-is (e s) (c .weight .ensures) (multiple-is (c .before .before)) (sine-column s .same))
-    (weight-small (e s) (slight s) (natAbs (column (row s) 1)) (column (row s) 4) (small s .each 4 (leb→le 5 6 tt)))
+abbrev from-first : tie.After-weight → tie.Start
+from-first c = from-angle (c .before .before .before)
 
-abbrev sine-product : tie.After-sine-in → Mirror
-sine-product c =
-    let s = c .before .before .before .before .before .before in
-    sine-weight (c .before) ⊗ gave (c .sine-in .ok) (c .sine-in .ensures ∙ ap sine (angle-is (c .before .before .before .before .before))) (sine-most (row-angle (args s) (row s)))
+abbrev from-second : tie.After-weight2 → tie.Start
+from-second c = from-first (c .before .before .before)
 
-abbrev cosine-weight : tie.After-weight2 → Mirror
-cosine-weight c =
-    let s = c .before .before .before .before .before .before .before .before in
-    gave (c .weight2 .ok) (weight-is (e s) (c .weight2 .ensures) (multiple-is (c .before .before .before .before .before)) (cosine-column s .same))
-    (weight-small (e s) (slight s) (natAbs (column (row s) 1)) (column (row s) 5) (small s .each 5 (leb→le 6 6 tt)))
+angle-is : (c : tie.After-angle-of) → toZ w64 (ofZ w64 (c .angle-of .result)) ≡ row-angle (args (from-angle c)) (row (from-angle c))
+angle-is c =
+    let s = from-angle c in
+    passed (c .angle-of .ok) (c .angle-of .ensures ∙ ap (angle-of (args s)) (read-is s) ∙ moon-angle (args s) (row s))
 
-row-angle-requires : tie.Need-row-angle-requires
-row-angle-requires c κs = search needs
+abbrev first : tie.After-weight → Mirror
+first c =
+    let s = from-first c in
+    gave (c .weight .ok) (c .weight .ensures ∙ (λ i. weight (e s) (natAbs (column-same (small s) 1 tt tt i)) (column-same (small s) 4 tt tt i)))
+    (weight-small (e s) (slight s) (natAbs (column (row s) 1)) (column (row s) 4) (column-most (small s) 4 tt tt))
 
-array-copy-out-absolute : tie.Need-array-copy-out-absolute
-array-copy-out-absolute c = search needs
+abbrev second : tie.After-weight2 → Mirror
+second c =
+    let s = from-second c in
+    gave (c .weight2 .ok) (c .weight2 .ensures ∙ (λ i. weight (e s) (natAbs (column-same (small s) 1 tt tt i)) (column-same (small s) 5 tt tt i)))
+    (weight-small (e s) (slight s) (natAbs (column (row s) 1)) (column (row s) 5) (column-most (small s) 5 tt tt))
 
-cast-absolute : tie.Need-cast-absolute
-cast-absolute c = widened (column (row (c .before .before)) 1) (small (c .before .before) .each 1 (leb→le 2 6 tt)) tt
-
-absolute-requires : tie.Need-absolute-requires
-absolute-requires c κs = search needs
-
-array-copy-out-weight : tie.Need-array-copy-out-weight
-array-copy-out-weight c = search needs
-
-cast-weight : tie.Need-cast-weight
-cast-weight c = widened (column (row (c .before .before .before .before)) 4) (small (c .before .before .before .before) .each 4 (leb→le 5 6 tt)) tt
+angle-of-requires : tie.Need-angle-of-requires
+angle-of-requires c κs = (c .before .before .before .before .pre .1 .0, few (c .before .before .before .before))
 
 weight-requires : tie.Need-weight-requires
-weight-requires c κs = (slight (c .before .before .before .before), asked (sine-column (c .before .before .before .before)) tt)
-
-sine-in-requires : tie.Need-sine-in-requires
-sine-in-requires c κs = search needs
-
-mul-sine : tie.Need-mul-sine
-mul-sine c = fits (sine-product c) tt
-
-array-copy-out-weight-2 : tie.Need-array-copy-out-weight-2
-array-copy-out-weight-2 c = search needs
-
-cast-weight-2 : tie.Need-cast-weight-2
-cast-weight-2 c =
-    widened (column (row (c .before .before .before .before .before .before .before)) 5)
-    (small (c .before .before .before .before .before .before .before) .each 5 (leb→le 6 6 tt)) tt
+weight-requires c κs =
+    let s = from-angle (c .before .before) in
+    (slight s, (column-handed (small s) 1 tt tt, column-handed (small s) 4 tt tt))
 
 weight-requires-2 : tie.Need-weight-requires-2
-weight-requires-2 c κs = (
-  slight (c .before .before .before .before .before .before .before),
-  asked
-      (cosine-column (c .before .before .before .before .before .before .before)) tt,
-)
+weight-requires-2 c κs =
+    let s = from-first (c .before .before) in
+    (slight s, (column-handed (small s) 1 tt tt, column-handed (small s) 5 tt tt))
 
-cosine-term-requires : tie.Need-cosine-term-requires
-cosine-term-requires c κs = (c .before .before .before .before .before .before .before .before .pre .0, asked (cosine-weight c) tt)
+weighted-requires : tie.Need-weighted-requires
+weighted-requires c κs = (from-second c .pre .0, (asked (first (c .before .before .before)) tt, asked (second c) tt))
 
 returns : tie.Need-returns
-returns c = (
-  kept (sine-product (c .before .before .before)) tt .same,
-  passed (c .cosine-term .ok) (c .cosine-term .ensures ∙ ap₂ (λ (w a : ℤ). w *ℤ cosine a) (cosine-weight (c .before) .same) (angle-is (c .before .before .before .before .before .before .before .before))),
-)
+returns c =
+    let w = c .before .before .before .before in
+    let angle = angle-is (w .before .before .before) in (
+      c .weighted .ensures .0 ∙ (λ i. first w .same i *ℤ sine (angle i)),
+      c .weighted .ensures .1 ∙ (λ i. second (c .before) .same i *ℤ cosine (angle i)),
+    )
 
 pub row-terms-spec : {M : Type 1} → statement M
 row-terms-spec =
-    tie.close (tie.spec row-angle-requires array-copy-out-absolute cast-absolute absolute-requires array-copy-out-weight cast-weight weight-requires
-    sine-in-requires mul-sine array-copy-out-weight-2 cast-weight-2 weight-requires-2 cosine-term-requires returns)
+    tie.close
+    (tie.spec (λ c. search needs) (λ c. search needs) (λ c. search needs) (λ c. search needs) angle-of-requires
+    (λ c. search needs) (λ c. search needs) weight-requires (λ c. search needs) (λ c. search needs) weight-requires-2 weighted-requires returns)

@@ -1,12 +1,13 @@
 -- `sums::moon::weight` meets its contract.
 use mathlib.Core.Path.{_∙_, _≡_, ap, refl, sym}
 use Prim.Native.Nat.{suc, zero, ℕ}
-use lib.IntN.{_*ℤ_, pos, ℤ}
+use lib.IntN.{_*ℤ_, natAbs, pos, ℤ}
 use borrow.Author.Needs.{needs}
 use Rattle.arithmetic.specs.Floor.{⌊_÷_⌋}
-use Rattle.numbers.proofs.Machine.{Mirror, _⊗_, arg, fits, floor-gave, kept, lit, told}
+use Rattle.numbers.proofs.Machine.{Mirror, _⊗_, fits, floor-gave, kept, lit, told}
 use Rattle.sum_rules.specs.Moon.{weight}
 use Rattle.sum_rules.specs.declared.moon.Eccentricity.{Eccentricity}
+use Rattle.sums.proofs.NarrowMirror.{narrow, widened}
 use Rattle.sums.proofs.moon.weight.Statement.{statement}
 use Rattle.sums.proofs.moon.weight.Tie as tie
 
@@ -19,7 +20,7 @@ twice e (suc (suc m)) l h k = refl
 
 module _ (s : tie.Start) where
   abbrev l-mirror : Mirror
-  l-mirror = arg (s .fits .l) (s .pre .1)
+  l-mirror = narrow (s .args .l) (s .pre .1 .1) tt
 
   abbrev hundred : Mirror
   hundred = lit (pos 100) ⊗ l-mirror
@@ -30,37 +31,41 @@ module _ (s : tie.Start) where
   abbrev by-e2 : Mirror
   by-e2 = l-mirror ⊗ told {r = s .args .e .e2} refl (s .pre .0 .twice) tt
 
-mul-result : tie.Need-mul-result
-mul-result c = fits (hundred (c .before)) tt
+module _ (c : tie.After-absolute) where
+  abbrev s₁ : tie.Start
+  s₁ = c .before
 
-mul-floor-div : tie.Need-mul-floor-div
-mul-floor-div c = fits (by-e (c .before .before .before .before)) tt
-
-floor-div-requires : tie.Need-floor-div-requires
-floor-div-requires c κs = search needs
-
-mul-floor-div-2 : tie.Need-mul-floor-div-2
-mul-floor-div-2 c = fits (by-e2 (c .before .before .before .before)) tt
-
-floor-div-requires-2 : tie.Need-floor-div-requires-2
-floor-div-requires-2 c κs = search needs
+  -- the weight by what `absolute` gave
+  by-multiple : weight (s₁ .args .e) (c .absolute .result) (s₁ .args .l) ≡ weight (s₁ .args .e) (natAbs (s₁ .args .m)) (s₁ .args .l)
+  by-multiple =
+      ap (λ (m : ℕ). weight (s₁ .args .e) m (s₁ .args .l)) (c .absolute .ensures ∙ ap natAbs (narrow (s₁ .args .m) (s₁ .pre .1 .0) tt .same))
 
 returns : tie.Need-returns
 unfolding weight
-returns c = kept (hundred (c .before)) tt .same ∙ ap (λ (m : ℕ). weight (c .before .args .e) m (c .before .args .l)) (sym (c .if1 .taken))
+returns c =
+    let a = c .before in
+    kept (hundred (s₁ a)) tt .same ∙ ap (λ (m : ℕ). weight (s₁ a .args .e) m (s₁ a .args .l)) (sym (c .if1 .taken)) ∙ by-multiple a
 
 returns-2 : tie.Need-returns-2
 unfolding weight
 returns-2 c =
-    let s = c .before .before .before .before .before in
-    floor-gave (kept (by-e s) tt) 10_000 (c .floor-div .ok) (c .floor-div .ensures) .same
-    ∙ ap (λ (m : ℕ). weight (s .args .e) m (s .args .l)) (sym (c .before .before .before .if2 .taken))
+    let a = c .before .before .before .before .before in
+    floor-gave (kept (by-e (s₁ a)) tt) 10_000 (c .floor-div .ok) (c .floor-div .ensures) .same
+    ∙ ap (λ (m : ℕ). weight (s₁ a .args .e) m (s₁ a .args .l)) (sym (c .before .before .before .if2 .taken)) ∙ by-multiple a
 
 returns-3 : tie.Need-returns-3
 returns-3 c =
-    let s = c .before .before .before .before .before in
-    floor-gave (kept (by-e2 s) tt) 10_000 (c .floor-div2 .ok) (c .floor-div2 .ensures) .same
-    ∙ sym (twice (s .args .e) (s .args .m) (s .args .l) (c .before .before .before .before .if1 .left) (c .before .before .before .if2 .left))
+    let a = c .before .before .before .before .before in
+    floor-gave (kept (by-e2 (s₁ a)) tt) 10_000 (c .floor-div2 .ok) (c .floor-div2 .ensures) .same
+    ∙ sym (twice (s₁ a .args .e) (a .absolute .result) (s₁ a .args .l) (c .before .before .before .before .if1 .left) (c .before .before .before .if2 .left))
+    ∙ by-multiple a
 
 pub weight-spec : {M : Type 1} → statement M
-weight-spec = tie.close (tie.spec mul-result mul-floor-div floor-div-requires mul-floor-div-2 floor-div-requires-2 returns returns-2 returns-3)
+weight-spec =
+    tie.close
+    (tie.spec
+    (λ c. widened (c .args .m) (c .pre .1 .0) tt) (λ c κs. search needs) (λ c. widened (c .before .args .l) (c .before .pre .1 .1) tt)
+    (λ c. fits (hundred (s₁ (c .before))) tt)
+    (λ c. fits (by-e (s₁ (c .before .before .before .before))) tt) (λ c κs. search needs)
+    (λ c. fits (by-e2 (s₁ (c .before .before .before .before))) tt) (λ c κs. search needs)
+    returns returns-2 returns-3)

@@ -1,90 +1,72 @@
 -- `sums::nutation::nutation_at` meets its contract.
-use mathlib.Core.Path.{_∙_, _≡_, ap, subst⁻¹}
-use Prim.Native.Nat.{_^_, _≤_}
-use native.Mathlib.Nat.{le-trans}
-use lib.Dec.{leb→le}
-use lib.IntN.{natAbs, pos, ℤ}
+use mathlib.Core.Path.{_∙_, _≡_, subst⁻¹}
+use Prim.Native.Nat.{_^_}
+use lib.IntN.{pos, ℤ}
 use borrow.Author.Needs.{needs}
 use Rattle.numbers.proofs.Machine.{Mirror, _⊗_, asked, fits, floor-gave, kept, lit, told}
 use Rattle.sum_rules.specs.Instant.{u}
-use Rattle.sums.specs.MoonRange.{Turns}
+use Rattle.sums.specs.TermRange.{Turns}
 use Rattle.sum_rules.specs.Nutation.{arguments, cosine-term, sine-term, Δε, Δψ}
 use Rattle.sums.specs.NutationRange.{Summable}
 use Rattle.sum_rules.specs.NutationTerms.{nutation-terms}
 use Rattle.sum_rules.specs.Table.{total}
-use Rattle.sum_rules.specs.declared.instant.Powers.{Powers}
-use Rattle.sums.proofs.InstantLaws.{u-most}
-use Rattle.sums.proofs.NutationLaws.{arguments-turn, by-cosine-small, by-sine-small, nutation-fits}
+use Rattle.sums.proofs.InstantLaws.{u-told}
+use Rattle.sums.proofs.NutationLaws.{arguments-turn, cosine-summing, nutation-fits, sine-summing, u-small}
+use Rattle.sums.proofs.SumLoop.{Summing, all-small}
 use Rattle.sums.proofs.nutation.nutation_at.Statement.{statement}
 use Rattle.sums.proofs.nutation.nutation_at.Tie as tie
 
-abbrev n : tie.Start → ℤ
-n s = s .args .t .n
+module _ (s : tie.Start) where
+  abbrev n : ℤ
+  n = s .args .t .n
 
-abbrev u-mirror : (s : tie.Start) → Mirror
-u-mirror s = told (ap (λ (t : Powers). t .u) (s .pre .1 .is)) (u-most (n s) (s .pre .1 .near)) tt
+  sine-sums : Summing (sine-term (arguments n) (u n)) nutation-terms (2 ^ 57)
+  sine-sums = sine-summing (arguments n) (u n) (u-small n (s .pre .1 .near)) nutation-terms nutation-fits
 
-u-small : (s : tie.Start) → natAbs (u (n s)) ≤ 2 ^ 20
-u-small s = le-trans (u-most (n s) (s .pre .1 .near)) (leb→le 1_011_001 (2 ^ 20) tt)
+  cosine-sums : Summing (cosine-term (arguments n) (u n)) nutation-terms (2 ^ 57)
+  cosine-sums = cosine-summing (arguments n) (u n) (u-small n (s .pre .1 .near)) nutation-terms nutation-fits
 
 module _ (c : tie.After-term-sums) where
-  abbrev s₁ : tie.Start
-  s₁ = c .before .before .before .before .before
+  abbrev begun : tie.Start
+  begun = c .before .before .before .before .before
 
-  sine-is : c .term-sums .result .sine ≡ total (sine-term (arguments (n s₁)) (u (n s₁))) nutation-terms
+  sine-is : c .term-sums .result .sine ≡ total (sine-term (arguments (n begun)) (u (n begun))) nutation-terms
   sine-is =
-      c .term-sums .ensures .0 ∙ (λ i. total (sine-term (c .before .before .before .before .arguments .ensures i) (u-mirror s₁ .same i))
+      c .term-sums .ensures .0 ∙ (λ i. total (sine-term (c .before .before .before .before .arguments .ensures i) (u-told (begun .pre .1) .same i))
       (c .before .before .before .nutation-terms .ensures i))
 
-  cosine-is : c .term-sums .result .cosine ≡ total (cosine-term (arguments (n s₁)) (u (n s₁))) nutation-terms
+  cosine-is : c .term-sums .result .cosine ≡ total (cosine-term (arguments (n begun)) (u (n begun))) nutation-terms
   cosine-is =
-      c .term-sums .ensures .1 ∙ (λ i. total (cosine-term (c .before .before .before .before .arguments .ensures i) (u-mirror s₁ .same i))
+      c .term-sums .ensures .1 ∙ (λ i. total (cosine-term (c .before .before .before .before .arguments .ensures i) (u-told (begun .pre .1) .same i))
       (c .before .before .before .nutation-terms .ensures i))
 
   abbrev sine-scaled : Mirror
-  sine-scaled = lit (pos 25) ⊗ told sine-is (by-sine-small (arguments (n s₁)) (u (n s₁)) (u-small s₁) nutation-terms nutation-fits) tt
+  sine-scaled = lit (pos 25) ⊗ told sine-is (all-small (sine-sums begun)) tt
 
   abbrev cosine-scaled : Mirror
-  cosine-scaled = lit (pos 25) ⊗ told cosine-is (by-cosine-small (arguments (n s₁)) (u (n s₁)) (u-small s₁) nutation-terms nutation-fits) tt
-
-arguments-requires : tie.Need-arguments-requires
-arguments-requires c κs = search needs
-
-nutation-terms-requires : tie.Need-nutation-terms-requires
-nutation-terms-requires c κs = search needs
-
-slice-aggregate-term-sums : tie.Need-slice-aggregate-term-sums
-slice-aggregate-term-sums c = search needs
+  cosine-scaled = lit (pos 25) ⊗ told cosine-is (all-small (cosine-sums begun)) tt
 
 term-sums-requires : tie.Need-term-sums-requires
-term-sums-requires c κs = (
-  c .before .before .before .before .pre .0,
-  (
-    subst⁻¹ Turns (c .before .before .before .arguments .ensures) (arguments-turn (n (c .before .before .before .before))),
-    (asked (u-mirror (c .before .before .before .before)) tt, subst⁻¹ Summable (c .before .before .nutation-terms .ensures) nutation-fits),
-  ),
-)
-
-mul-floor-div : tie.Need-mul-floor-div
-mul-floor-div c = fits (sine-scaled (c .before .before)) tt
-
-floor-div-requires : tie.Need-floor-div-requires
-floor-div-requires c κs = search needs
+term-sums-requires c κs =
+    let a = c .before .before .before in
+    let s = a .before in
+    (s .pre .0, (subst⁻¹ Turns (a .arguments .ensures) (arguments-turn (n s)), (asked (u-told (s .pre .1)) tt, subst⁻¹ Summable (c .before .before .nutation-terms .ensures) nutation-fits)))
 
 mul-floor-div-2 : tie.Need-mul-floor-div-2
 mul-floor-div-2 c = fits (cosine-scaled (c .before .before .before .before .before)) tt
 
-floor-div-requires-2 : tie.Need-floor-div-requires-2
-floor-div-requires-2 c κs = search needs
-
 returns : tie.Need-returns
 unfolding Δψ Δε
-returns c = (
-  floor-gave (kept (sine-scaled (c .before .before .before .before .before .before)) tt) 90_000_000_000 (c .before .before .before .floor-div .ok) (c .before .before .before .floor-div .ensures) .same,
-  floor-gave (kept (cosine-scaled (c .before .before .before .before .before .before)) tt) 90_000_000_000 (c .floor-div2 .ok) (c .floor-div2 .ensures) .same,
-)
+returns c =
+    let longitude = c .before .before .before in
+    let sums = longitude .before .before .before in (
+      floor-gave (kept (sine-scaled sums) tt) 90_000_000_000 (longitude .floor-div .ok) (longitude .floor-div .ensures) .same,
+      floor-gave (kept (cosine-scaled sums) tt) 90_000_000_000 (c .floor-div2 .ok) (c .floor-div2 .ensures) .same,
+    )
 
 pub nutation-at-spec : {M : Type 1} → statement M
 nutation-at-spec =
-    tie.close (tie.spec arguments-requires nutation-terms-requires slice-aggregate-term-sums term-sums-requires mul-floor-div floor-div-requires
-    mul-floor-div-2 floor-div-requires-2 returns)
+    tie.close
+    (tie.spec
+    (λ c κs. search needs) (λ c κs. search needs) (λ c. search needs) term-sums-requires (λ c. fits (sine-scaled (c .before .before)) tt)
+    (λ c κs. search needs) mul-floor-div-2 (λ c κs. search needs) returns)

@@ -2,32 +2,25 @@
 use lib.IntN.{pos}
 use borrow.Author.Needs.{needs}
 use Rattle.numbers.proofs.Machine.{Mirror, _⊕_, _⊗_, arg, fits, floor-gave, kept, lit}
+use Rattle.sums.proofs.NarrowMirror.{narrow, widened}
 use Rattle.sums.proofs.nutation.weight.Statement.{statement}
 use Rattle.sums.proofs.nutation.weight.Tie as tie
 
-abbrev ten-a : tie.Start → Mirror
-ten-a s = lit (pos 10) ⊗ arg (s .fits .a) (s .pre .1 .0)
+module _ (s : tie.Start) where
+  abbrev ten-a : Mirror
+  ten-a = lit (pos 10) ⊗ narrow (s .args .a) (s .pre .1 .0) tt
 
-abbrev b-u : tie.Start → Mirror
-b-u s = arg (s .fits .b) (s .pre .1 .1) ⊗ arg (s .fits .u) (s .pre .0)
+  abbrev b-u : Mirror
+  b-u = narrow (s .args .b) (s .pre .1 .1) tt ⊗ arg (s .fits .u) (s .pre .0)
 
 abbrev sum : tie.After-floor-div → Mirror
 sum c = kept (ten-a (c .before)) tt ⊕ floor-gave (kept (b-u (c .before)) tt) 1_000_000 (c .floor-div .ok) (c .floor-div .ensures)
 
-mul-result : tie.Need-mul-result
-mul-result c = fits (ten-a c) tt
-
-mul-floor-div : tie.Need-mul-floor-div
-mul-floor-div c = fits (b-u c) tt
-
-floor-div-requires : tie.Need-floor-div-requires
-floor-div-requires c κs = search needs
-
-add-result : tie.Need-add-result
-add-result c = fits (sum c) tt
-
-returns : tie.Need-returns
-returns c = kept (sum c) tt .same
-
 pub weight-spec : {M : Type 1} → statement M
-weight-spec = tie.close (tie.spec mul-result mul-floor-div floor-div-requires add-result returns)
+weight-spec =
+    tie.close
+    (tie.spec
+    (λ c. widened (c .args .a) (c .pre .1 .0) tt) (λ c. fits (ten-a c) tt)
+    (λ c. widened (c .args .b) (c .pre .1 .1) tt) (λ c. fits (b-u c) tt) (λ c κs. search needs)
+    (λ c. fits (sum c) tt)
+    (λ c. kept (sum c) tt .same))

@@ -25,23 +25,8 @@ product c =
 abbrev sum : tie.After-floor-div → Mirror
 sum c = from-nat (mean-small (c .before .before)) tt ⊕ floor-gave (kept (product (c .before)) tt) 1_000_000_000 (c .floor-div .ok) (c .floor-div .ensures)
 
-mean-at-requires : tie.Need-mean-at-requires
-mean-at-requires c κs = search needs
-
 cast-result : tie.Need-cast-result
 cast-result c = nat-fits (mean-small c) tt
-
-cosine-in-requires : tie.Need-cosine-in-requires
-cosine-in-requires c κs = search needs
-
-mul-floor-div : tie.Need-mul-floor-div
-mul-floor-div c = fits (product c) tt
-
-floor-div-requires : tie.Need-floor-div-requires
-floor-div-requires c κs = search needs
-
-add-result : tie.Need-add-result
-add-result c = fits (sum c) tt
 
 returns : tie.Need-returns
 unfolding apparent
@@ -50,4 +35,7 @@ returns c =
     ∙ ap (λ (m : ℕ). pos m +ℤ ⌊ c .before .before .before .args .nutation *ℤ cosine (c .before .before .before .args .obliquity) ÷ 1_000_000_000 ⌋) (c .before .before .mean-at .ensures)
 
 pub apparent-at-spec : {M : Type 1} → statement M
-apparent-at-spec = tie.close (tie.spec mean-at-requires cast-result cosine-in-requires mul-floor-div floor-div-requires add-result returns)
+apparent-at-spec =
+    tie.close
+    (tie.spec
+    (λ c κs. search needs) cast-result (λ c κs. search needs) (λ c. fits (product c) tt) (λ c κs. search needs) (λ c. fits (sum c) tt) returns)

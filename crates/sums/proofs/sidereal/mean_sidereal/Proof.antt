@@ -12,9 +12,6 @@ use Rattle.sums.proofs.sidereal.mean_sidereal.Tie as tie
 is-powers : (c : tie.After-powers-at) → c .powers-at .result ≡ powers (c .before .before .args .instant .ut)
 is-powers c = c .powers-at .ensures ∙ ap powers (told {r = c .before .before .args .instant .ut} refl (c .before .before .pre .0) tt .same)
 
-powers-at-requires : tie.Need-powers-at-requires
-powers-at-requires c κs = search needs
-
 mean-at-requires : tie.Need-mean-at-requires
 mean-at-requires c κs = reached (is-powers c) (c .before .before .pre .0)
 
@@ -22,4 +19,4 @@ returns : tie.Need-returns
 returns c = c .mean-at .ensures ∙ ap (λ (t : Powers). mean (t .n)) (is-powers (c .before))
 
 pub mean-sidereal-spec : {M : Type 1} → statement M
-mean-sidereal-spec = tie.close (tie.spec powers-at-requires mean-at-requires returns)
+mean-sidereal-spec = tie.close (tie.spec (λ c κs. search needs) mean-at-requires returns)

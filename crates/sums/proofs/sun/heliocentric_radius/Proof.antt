@@ -1,131 +1,74 @@
--- `sums::sun::heliocentric_radius` meets its contract.
+-- `sums::sun::heliocentric_radius` meets its contract: each v is what the groups above give, from the highest down.
 use mathlib.Core.List.{[], _∷_}
-use mathlib.Core.Path.{refl, subst⁻¹}
-use Prim.Native.Nat.{_≤_, zero-le}
-use lib.Dec.{leb→le}
-use lib.IntN.{natAbs, ℤ}
+use Prim.Native.Nat.{zero-le}
 use borrow.Author.Needs.{needs}
-use Rattle.numbers.proofs.Machine.{Mirror, asked, gave, passed, told}
-use Rattle.sum_rules.specs.Instant.{furthest}
-use Rattle.sums.specs.SunRange.{Summable}
+use Rattle.numbers.proofs.Machine.{Mirror, asked, passed}
 use Rattle.sum_rules.specs.SunTerms.{R0, R1, R2, R3, R4}
-use Rattle.sums.proofs.SunLaws.{R-sound, down-is, none-above, series-is}
+use Rattle.sums.proofs.InstantLaws.{instant-told}
+use Rattle.sums.proofs.SunLaws.{R-sound, lent-fits, none-above, onto-gave, series-is}
 use Rattle.sums.proofs.sun.heliocentric_radius.Statement.{statement}
 use Rattle.sums.proofs.sun.heliocentric_radius.Tie as tie
 
-abbrev n : tie.Start → ℤ
-n s = s .args .t .n
+-- where the function began, from each v
+abbrev from4 : tie.After-onto → tie.Start
+from4 c = c .before .before .before
 
-abbrev near : (s : tie.Start) → natAbs (n s) ≤ furthest
-near s = s .pre .1 .near
+abbrev from3 : tie.After-onto2 → tie.Start
+from3 c = from4 (c .before .before .before)
+
+abbrev from2 : tie.After-onto3 → tie.Start
+from2 c = from3 (c .before .before .before)
+
+abbrev from1 : tie.After-onto4 → tie.Start
+from1 c = from2 (c .before .before .before)
 
 abbrev v4 : tie.After-onto → Mirror
-v4 c =
-    gave (c .onto .ok) (down-is (n (c .before .before .before)) R4 ([]) (c .onto .ensures) (c .before .before .r4 .ensures)
-    (none-above (n (c .before .before .before)))) (R-sound .deeper (n (c .before .before .before)) (near (c .before .before .before)) 2)
+v4 c = onto-gave R-sound 3 (from4 c .pre .1) tt (c .onto .ok) (c .onto .ensures) (c .before .before .r4 .ensures) (none-above (from4 c .args .t .n))
 
 abbrev v3 : tie.After-onto2 → Mirror
-v3 c =
-    gave (c .onto2 .ok) (down-is (n (c .before .before .before .before .before .before)) R3 (R4 ∷ []) (c .onto2 .ensures)
-    (c .before .before .r3 .ensures) (v4 (c .before .before .before) .same))
-    (R-sound .deeper (n (c .before .before .before .before .before .before)) (near (c .before .before .before .before .before .before)) 1)
+v3 c = onto-gave R-sound 2 (from3 c .pre .1) tt (c .onto2 .ok) (c .onto2 .ensures) (c .before .before .r3 .ensures) (v4 (c .before .before .before) .same)
 
 abbrev v2 : tie.After-onto3 → Mirror
-v2 c =
-    gave (c .onto3 .ok) (down-is (n (c .before .before .before .before .before .before .before .before .before)) R2 (R3 ∷ R4 ∷ []) (c .onto3 .ensures)
-    (c .before .before .r2 .ensures) (v3 (c .before .before .before) .same))
-    (R-sound .deeper (n (c .before .before .before .before .before .before .before .before .before))
-    (near (c .before .before .before .before .before .before .before .before .before)) 0)
+v2 c = onto-gave R-sound 1 (from2 c .pre .1) tt (c .onto3 .ok) (c .onto3 .ensures) (c .before .before .r2 .ensures) (v3 (c .before .before .before) .same)
 
 abbrev v1 : tie.After-onto4 → Mirror
-v1 c =
-    gave (c .onto4 .ok) (down-is (n (c .before .before .before .before .before .before .before .before .before .before .before .before)) R1
-    (R2 ∷ R3 ∷ R4 ∷ []) (c .onto4 .ensures) (c .before .before .r1 .ensures) (v2 (c .before .before .before) .same))
-    (R-sound .first (n (c .before .before .before .before .before .before .before .before .before .before .before .before))
-    (near (c .before .before .before .before .before .before .before .before .before .before .before .before)))
-
-r4-requires : tie.Need-r4-requires
-r4-requires c κs = search needs
-
-slice-aggregate-onto : tie.Need-slice-aggregate-onto
-slice-aggregate-onto c = search needs
+v1 c = onto-gave R-sound 0 (from1 c .pre .1) tt (c .onto4 .ok) (c .onto4 .ensures) (c .before .before .r1 .ensures) (v2 (c .before .before .before) .same)
 
 onto-requires : tie.Need-onto-requires
-onto-requires c κs =
-    (c .before .before .pre .0, (c .before .before .pre .1, (subst⁻¹ Summable (c .before .r4 .ensures) (R-sound .each 4 (leb→le 5 5 tt)), zero-le)))
-
-r3-requires : tie.Need-r3-requires
-r3-requires c κs = search needs
-
-slice-aggregate-onto-2 : tie.Need-slice-aggregate-onto-2
-slice-aggregate-onto-2 c = search needs
+onto-requires c κs = (c .before .before .pre .0, (c .before .before .pre .1, (lent-fits R-sound 4 tt (c .before .r4 .ensures), zero-le)))
 
 onto-requires-2 : tie.Need-onto-requires-2
-onto-requires-2 c κs = (
-  c .before .before .before .before .before .pre .0,
-  (
-    c .before .before .before .before .before .pre .1,
-    (subst⁻¹ Summable (c .before .r3 .ensures) (R-sound .each 3 (leb→le 4 5 tt)), asked (v4 (c .before .before)) tt),
-  ),
-)
-
-r2-requires : tie.Need-r2-requires
-r2-requires c κs = search needs
-
-slice-aggregate-onto-3 : tie.Need-slice-aggregate-onto-3
-slice-aggregate-onto-3 c = search needs
+onto-requires-2 c κs =
+    let s = from4 (c .before .before) in
+    (s .pre .0, (s .pre .1, (lent-fits R-sound 3 tt (c .before .r3 .ensures), asked (v4 (c .before .before)) tt)))
 
 onto-requires-3 : tie.Need-onto-requires-3
-onto-requires-3 c κs = (
-  c .before .before .before .before .before .before .before .before .pre .0,
-  (
-    c .before .before .before .before .before .before .before .before .pre .1,
-    (subst⁻¹ Summable (c .before .r2 .ensures) (R-sound .each 2 (leb→le 3 5 tt)), asked (v3 (c .before .before)) tt),
-  ),
-)
-
-r1-requires : tie.Need-r1-requires
-r1-requires c κs = search needs
-
-slice-aggregate-onto-4 : tie.Need-slice-aggregate-onto-4
-slice-aggregate-onto-4 c = search needs
+onto-requires-3 c κs =
+    let s = from3 (c .before .before) in
+    (s .pre .0, (s .pre .1, (lent-fits R-sound 2 tt (c .before .r2 .ensures), asked (v3 (c .before .before)) tt)))
 
 onto-requires-4 : tie.Need-onto-requires-4
-onto-requires-4 c κs = (
-  c .before .before .before .before .before .before .before .before .before .before .before .pre .0,
-  (
-    c .before .before .before .before .before .before .before .before .before .before .before .pre .1,
-    (subst⁻¹ Summable (c .before .r1 .ensures) (R-sound .each 1 (leb→le 2 5 tt)), asked (v2 (c .before .before)) tt),
-  ),
-)
-
-r0-requires : tie.Need-r0-requires
-r0-requires c κs = search needs
-
-slice-aggregate-into-first : tie.Need-slice-aggregate-into-first
-slice-aggregate-into-first c = search needs
+onto-requires-4 c κs =
+    let s = from2 (c .before .before) in
+    (s .pre .0, (s .pre .1, (lent-fits R-sound 1 tt (c .before .r1 .ensures), asked (v2 (c .before .before)) tt)))
 
 into-first-requires : tie.Need-into-first-requires
-into-first-requires c κs = (
-  c .before .before .before .before .before .before .before .before .before .before .before .before .before .before .before .pre .0,
-  (
-    asked (told {r = n (c .before .before .before .before .before .before .before .before .before .before .before .before .before .before .before)}
-        refl (near (c .before .before .before .before .before .before .before .before .before .before .before .before .before .before .before)) tt) tt,
-    (subst⁻¹ Summable (c .before .before .r0 .ensures) (R-sound .each 0 (leb→le 1 5 tt)), asked (v1 (c .before .before .before)) tt),
-  ),
-)
+into-first-requires c κs =
+    let s = from1 (c .before .before .before) in
+    (s .pre .0, (asked (instant-told (s .pre .1)) tt, (lent-fits R-sound 0 tt (c .before .before .r0 .ensures), asked (v1 (c .before .before .before)) tt)))
 
 returns : tie.Need-returns
 returns c =
-    passed (c .into-first .ok) (series-is (n
-    (c .before .before .before .before .before .before .before .before .before .before .before .before .before .before .before .before)) R0
-    (R1 ∷ R2 ∷ R3 ∷ R4 ∷ []) (c .into-first .ensures)
-    (told {r = n (c .before .before .before .before .before .before .before .before .before .before .before .before .before .before .before .before)}
-    refl (near (c .before .before .before .before .before .before .before .before .before .before .before .before .before .before .before .before))
-    tt .same) (c .before .before .before .r0 .ensures) (v1 (c .before .before .before .before) .same))
+    let v = c .before .before .before .before in
+    let s = from1 v in
+    passed (c .into-first .ok) (series-is (s .args .t .n) R0 (R1 ∷ R2 ∷ R3 ∷ R4 ∷ []) (c .into-first .ensures) (instant-told (s .pre .1) .same) (c .before .before .before .r0 .ensures) (v1 v .same))
 
 pub heliocentric-radius-spec : {M : Type 1} → statement M
 heliocentric-radius-spec =
-    tie.close (tie.spec r4-requires slice-aggregate-onto onto-requires r3-requires slice-aggregate-onto-2 onto-requires-2 r2-requires
-    slice-aggregate-onto-3 onto-requires-3 r1-requires slice-aggregate-onto-4 onto-requires-4 r0-requires slice-aggregate-into-first
-    into-first-requires returns)
+    tie.close
+    (tie.spec
+    (λ c κs. search needs) (λ c. search needs) onto-requires
+    (λ c κs. search needs) (λ c. search needs) onto-requires-2
+    (λ c κs. search needs) (λ c. search needs) onto-requires-3
+    (λ c κs. search needs) (λ c. search needs) onto-requires-4
+    (λ c κs. search needs) (λ c. search needs) into-first-requires returns)

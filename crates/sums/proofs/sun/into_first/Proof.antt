@@ -31,11 +31,5 @@ group-requires c κs = (c .pre .0, (asked (n-mirror c) tt, c .pre .1 .1 .0))
 mul-div-requires : tie.Need-mul-div-requires
 mul-div-requires c κs = mul-div-asked (v-mirror (c .before)) (n-mirror (c .before)) millennium tt
 
-add-result : tie.Need-add-result
-add-result c = fits (sum c) tt
-
-returns : tie.Need-returns
-returns c = kept (sum c) tt .same
-
 pub into-first-spec : {M : Type 1} → statement M
-into-first-spec = tie.close (tie.spec group-requires mul-div-requires add-result returns)
+into-first-spec = tie.close (tie.spec group-requires mul-div-requires (λ c. fits (sum c) tt) (λ c. kept (sum c) tt .same))

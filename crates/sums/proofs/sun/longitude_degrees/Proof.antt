@@ -22,9 +22,6 @@ left-small c = omega (arith, left-is c, modulo-below (c .before .args .l) (zero-
 abbrev left-mirror : tie.After-floor-mod → Mirror
 left-mirror c = from-nat (left-small c) tt
 
-floor-mod-requires : tie.Need-floor-mod-requires
-floor-mod-requires c κs = search needs
-
 cast-mul-div : tie.Need-cast-mul-div
 cast-mul-div c = nat-fits (left-small c) tt
 
@@ -38,4 +35,4 @@ returns c =
     ∙ ap (λ (r : ℕ). ⌊ pos r *ℤ pos 5_729_577_951 ÷ 10_000_000_000 ⌋) (left-is (c .before))
 
 pub longitude-degrees-spec : {M : Type 1} → statement M
-longitude-degrees-spec = tie.close (tie.spec floor-mod-requires cast-mul-div mul-div-requires returns)
+longitude-degrees-spec = tie.close (tie.spec (λ c κs. search needs) cast-mul-div mul-div-requires returns)

@@ -12,9 +12,6 @@ c-mirror s = from-nat (s .pre .1) tt
 abbrev n-mirror : tie.Start → Mirror
 n-mirror s = arg (s .fits .n) (s .pre .0)
 
-cast-mul-div : tie.Need-cast-mul-div
-cast-mul-div c = search needs
-
 mul-div-requires : tie.Need-mul-div-requires
 mul-div-requires c κs = mul-div-asked (c-mirror c) (n-mirror c) millennium tt
 
@@ -22,4 +19,4 @@ returns : tie.Need-returns
 returns c = mul-div-gave (c-mirror (c .before)) (n-mirror (c .before)) millennium (c .mul-div .ok) (c .mul-div .ensures) .same
 
 pub phase-spec : {M : Type 1} → statement M
-phase-spec = tie.close (tie.spec cast-mul-div mul-div-requires returns)
+phase-spec = tie.close (tie.spec (λ c. search needs) mul-div-requires returns)

@@ -27,17 +27,8 @@ left-small c =
     let z = pos (c .before .before .args .b) +ℤ phase (c .before .before .args .n) (c .before .before .args .c) in
     subst⁻¹ (λ (r : ℕ). r < 628_318_531) (left-is c) (modulo-below z (zero-lt-suc 628_318_530))
 
-cast-floor-mod : tie.Need-cast-floor-mod
-cast-floor-mod c = search needs
-
 phase-requires : tie.Need-phase-requires
 phase-requires c κs = (handed (c .fits .n) (c .pre .0), c .pre .1 .1)
-
-add-floor-mod : tie.Need-add-floor-mod
-add-floor-mod c = fits (sum c) tt
-
-floor-mod-requires : tie.Need-floor-mod-requires
-floor-mod-requires c κs = search needs
 
 mul-result : tie.Need-mul-result
 mul-result c = record { fits = omega (arith, left-small c) }
@@ -47,4 +38,4 @@ unfolding row-angle
 returns c = ap (λ (r : ℕ). r * 5_729_577_951 / 100_000_000) (left-is c)
 
 pub row-angle-spec : {M : Type 1} → statement M
-row-angle-spec = tie.close (tie.spec cast-floor-mod phase-requires add-floor-mod floor-mod-requires mul-result returns)
+row-angle-spec = tie.close (tie.spec (λ c. search needs) phase-requires (λ c. fits (sum c) tt) (λ c κs. search needs) mul-result returns)

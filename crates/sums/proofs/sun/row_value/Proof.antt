@@ -41,41 +41,8 @@ product c =
     ⊗ gave (c .cosine-in .ok) (c .cosine-in .ensures ∙ ap cosine (from-nat (angle-small (c .before)) tt .same ∙ ap pos (angle-is (c .before))))
     (cosine-most (pos (row-angle (s .args .n) (row-B (row s)) (row-C (row s)))))
 
-array-read-a : tie.Need-array-read-a
-array-read-a c = search needs
-
-array-read-b : tie.Need-array-read-b
-array-read-b c = search needs
-
-array-read-c : tie.Need-array-read-c
-array-read-c c = search needs
-
-add-if1 : tie.Need-add-if1
-add-if1 c = search needs
-
-cast-result : tie.Need-cast-result
-cast-result c = search needs
-
-mul-result : tie.Need-mul-result
-mul-result c = fits (constant (c .before)) tt
-
-cast-floor-div : tie.Need-cast-floor-div
-cast-floor-div c = search needs
-
-row-angle-requires : tie.Need-row-angle-requires
-row-angle-requires c κs = search needs
-
 cast-cosine-in : tie.Need-cast-cosine-in
 cast-cosine-in c = nat-fits (angle-small c) tt
-
-cosine-in-requires : tie.Need-cosine-in-requires
-cosine-in-requires c κs = search needs
-
-mul-floor-div : tie.Need-mul-floor-div
-mul-floor-div c = fits (product c) tt
-
-floor-div-requires : tie.Need-floor-div-requires
-floor-div-requires c κs = search needs
 
 returns : tie.Need-returns
 returns c = kept (constant (c .before)) tt .same ∙ sym (constant-value (c .before .args .n) (row (c .before)) (c .if1 .taken))
@@ -86,5 +53,8 @@ returns-2 c = floor-gave (kept (product (c .before)) tt) 10_000_000 (c .floor-di
 
 pub row-value-spec : {M : Type 1} → statement M
 row-value-spec =
-    tie.close (tie.spec array-read-a array-read-b array-read-c add-if1 cast-result mul-result cast-floor-div row-angle-requires
-    cast-cosine-in cosine-in-requires mul-floor-div floor-div-requires returns returns-2)
+    tie.close
+    (tie.spec
+    (λ c. search needs) (λ c. search needs) (λ c. search needs) (λ c. search needs) (λ c. search needs) (λ c. fits (constant (c .before)) tt)
+    (λ c. search needs) (λ c κs. search needs) cast-cosine-in (λ c κs. search needs) (λ c. fits (product c) tt) (λ c κs. search needs) returns
+    returns-2)

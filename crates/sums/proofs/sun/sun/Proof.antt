@@ -14,12 +14,6 @@ use Rattle.sums.proofs.sun.sun.Tie as tie
 is-powers : (c : tie.After-powers-at) → c .powers-at .result ≡ powers (c .before .before .before .args .n)
 is-powers c = c .powers-at .ensures ∙ ap powers (any (c .before .before .before .fits .n) .same)
 
-table-requires : tie.Need-table-requires
-table-requires c κs = search needs
-
-powers-at-requires : tie.Need-powers-at-requires
-powers-at-requires c κs = search needs
-
 sun-at-requires : tie.Need-sun-at-requires
 sun-at-requires c κs = (c .before .before .table .ensures, reached (is-powers c) (c .before .before .before .pre))
 
@@ -29,4 +23,4 @@ returns c =
     (ap (λ (t : Powers). t .n) (is-powers (c .before))) (c .sun-at .ensures)
 
 pub sun-spec : {M : Type 1} → statement M
-sun-spec = tie.close (tie.spec table-requires powers-at-requires sun-at-requires returns)
+sun-spec = tie.close (tie.spec (λ c κs. search needs) (λ c κs. search needs) sun-at-requires returns)

@@ -5,15 +5,6 @@ use Rattle.sum_rules.proofs.Accurate.{sun-near}
 use Rattle.sums.proofs.sun.sun_at.Statement.{statement}
 use Rattle.sums.proofs.sun.sun_at.Tie as tie
 
-heliocentric-longitude-requires : tie.Need-heliocentric-longitude-requires
-heliocentric-longitude-requires c κs = search needs
-
-heliocentric-latitude-requires : tie.Need-heliocentric-latitude-requires
-heliocentric-latitude-requires c κs = search needs
-
-heliocentric-radius-requires : tie.Need-heliocentric-radius-requires
-heliocentric-radius-requires c κs = search needs
-
 returns : tie.Need-returns
 returns c =
     let s = c .before .before .before in (
@@ -25,4 +16,4 @@ returns c =
     )
 
 pub sun-at-spec : {M : Type 1} → statement M
-sun-at-spec = tie.close (tie.spec heliocentric-longitude-requires heliocentric-latitude-requires heliocentric-radius-requires returns)
+sun-at-spec = tie.close (tie.spec (λ c κs. search needs) (λ c κs. search needs) (λ c κs. search needs) returns)
