@@ -1,16 +1,19 @@
 // The values that the reports print between an instant and a place.
 use numbers::angle::Angle;
+use numbers::sine::sine_cosine_in;
 use numbers::sine_table::table;
 use sky::request::Start;
 use sky::request::instant_of;
 use sky_vectors::geocentric::Body;
 use sky_vectors::geocentric::Geocentric;
 use sky_vectors::geocentric::geocentric_at;
+use sky_vectors::orientation::Orientation;
+use sky_vectors::orientation::orientation_at;
 use sky_vectors::place::Place;
-use sky_vectors::place::place_of;
+use sky_vectors::place::from_centre;
+use sky_vectors::place::place_towards;
 use sky_vectors::station::Point;
-use sky_vectors::station::Station;
-use sky_vectors::station::station_at;
+use sky_vectors::station::runner_at;
 use sum_rules::instant::Powers;
 use sums::instant::powers_at;
 use sums::nutation::Nutation;
@@ -19,7 +22,8 @@ ghost use mathlib.Core.Path.{_≡_};
 ghost use Rattle.numbers.specs.Refusal.{first};
 ghost use Rattle.sky.specs.Request.{instant, start-refusals, point-refusals};
 ghost use Rattle.sky_vectors.specs.Geocentric.{geocentric};
-ghost use Rattle.sky_vectors.specs.Station.{station};
+ghost use Rattle.sky_vectors.specs.Orientation.{orientation};
+ghost use Rattle.sky_vectors.specs.Station.{runner};
 ghost use Rattle.sum_rules.specs.Nutation.{Δψ, Δε};
 ghost use Rattle.cases.specs.Steps.{from-south-pole};
 ghost use Rattle.sum_rules.specs.Instant.{Reached};
@@ -28,7 +32,7 @@ ghost use Rattle.sum_rules.specs.Instant.{Reached};
 pub struct Steps {
     pub nutation: Nutation,
     pub centre: Geocentric,
-    pub station: Station,
+    pub orientation: Orientation,
 }
 
 // The powers of UT and of TT.
@@ -51,7 +55,7 @@ pub fn steps_to(body: Body, start: Start, point: Point) -> Steps
     requires { ⌜ (first (start-refusals start) ≡ 0) × (first (point-refusals point) ≡ 0) ⌝ }
     ensures { λ r. ⌜ (r .nutation .longitude ≡ Δψ (instant start .tt)) × (r .nutation .obliquity ≡ Δε (instant start .tt)) ⌝ }
     ensures { λ r. ⌜
-        (r .centre ≡ geocentric body (instant start .tt)) × (r .station ≡ station point (instant start .ut) (instant start .tt)) ⌝ }
+        (r .centre ≡ geocentric body (instant start .tt)) × (r .orientation ≡ orientation (runner point .longitude) (instant start .ut) (instant start .tt)) ⌝ }
 {
     let table = table();
     let moment = moment_of(start);
@@ -59,30 +63,22 @@ pub fn steps_to(body: Body, start: Start, point: Point) -> Steps
     let tt = moment.tt;
     let nutation = nutation_at(&table, tt);
     let centre = geocentric_at(&table, body, tt, nutation.longitude);
-    let station = station_at(&table, point, ut, tt, nutation);
+    let runner = runner_at(&table, point);
+    let longitude = runner.longitude;
+    let orientation = orientation_at(&table, longitude, ut, tt, nutation);
     Steps {
         nutation,
         centre,
-        station,
+        orientation,
     }
 }
 
 // From the south pole of an Earth without size, turned by the sidereal angle θ: the azimuth is α - θ, the elevation is -δ.
-pub fn from_south_pole(centre: Geocentric, obliquity: i64, sidereal: i64) -> Place
-    ensures { λ r. ⌜ r ≡ from-south-pole centre obliquity sidereal ⌝ }
+pub fn from_south_pole(centre: Geocentric, orientation: Orientation) -> Place
+    ensures { λ r. ⌜ r ≡ from-south-pole centre orientation ⌝ }
 {
-    let longitude = centre.longitude;
-    let latitude = centre.latitude;
-    let body = Geocentric {
-        longitude,
-        latitude,
-        parallax: 0,
-    };
-    let pole = Station {
-        sidereal,
-        obliquity,
-        latitude: -(Angle::QUARTER as i64),
-        height: 0,
-    };
-    place_of(&table(), body, pole)
+    let table = table();
+    let pole = sine_cosine_in(&table, -(Angle::QUARTER as i64));
+    let direction = from_centre(&table, centre, orientation);
+    place_towards(pole, direction)
 }

@@ -13,8 +13,8 @@ use sky::answer::shown_place;
 use sky::request::Start;
 use sky_vectors::geocentric::Body;
 use sky_vectors::geocentric::Geocentric;
+use sky_vectors::orientation::Orientation;
 use sky_vectors::station::Point;
-use sky_vectors::station::Station;
 use sum_rules::instant::SECOND;
 use sums::nutation::Nutation;
 use sums::sun::longitude_degrees;
@@ -76,7 +76,7 @@ fn sums() {
 }
 
 // β 0.0001011219 and λ 204.0085519281 degrees; Δψ -0.00399840, Δε 0.00166657 and ε 23.440465 degrees, to one of the last printed digit.
-fn centre(body: Geocentric, nutation: Nutation, station: Station) {
+fn centre(body: Geocentric, nutation: Nutation, orientation: Orientation) {
     compared(
         b" beta lambda dpsi deps epsilon",
         [
@@ -84,7 +84,7 @@ fn centre(body: Geocentric, nutation: Nutation, station: Station) {
             body.longitude,
             nutation.longitude,
             nutation.obliquity,
-            station.obliquity,
+            orientation.obliquity,
         ],
         [10_112, 20_400_855_193, -399_840, 166_657, 2_344_046_500],
         [LATITUDE_BOUND, LONGITUDE_BOUND, 1, 1, 100],
@@ -92,14 +92,17 @@ fn centre(body: Geocentric, nutation: Nutation, station: Station) {
 }
 
 // α 202.22741, δ -9.31434 and H 11.105900 degrees, to one of the last digit of α: H is ν + σ - α, and no finer. H + α is 213.33331.
-fn equator(body: Geocentric, station: Station) {
-    let obliquity = station.obliquity;
-    let fixed = from_south_pole(body, obliquity, 0);
-    let turned = from_south_pole(body, obliquity, station.sidereal);
+fn equator(body: Geocentric, orientation: Orientation) {
+    let unturned = Orientation {
+        sidereal: 0,
+        obliquity: orientation.obliquity,
+    };
+    let fixed = from_south_pole(body, unturned);
+    let turned = from_south_pole(body, orientation);
     compared(
         b" nu+sigma alpha delta H",
         [
-            station.sidereal,
+            orientation.sidereal,
             fixed.azimuth,
             fixed.elevation,
             turned.azimuth,
@@ -128,8 +131,8 @@ pub fn table_a5_1() {
     let steps = steps_to(Body::Sun, start(), site());
     write(b"004 Table A5.1:");
     sums();
-    centre(steps.centre, steps.nutation, steps.station);
-    equator(steps.centre, steps.station);
+    centre(steps.centre, steps.nutation, steps.orientation);
+    equator(steps.centre, steps.orientation);
     place();
     write(b"\n");
 }

@@ -12,27 +12,12 @@ use Rattle.text.specs.Line.{sheet-numbers}
 use Rattle.text.specs.RoundTrip.{printed}
 use Rattle.numbers.specs.Refusal.{first, number}
 use Rattle.sky.specs.Answer.{Answer, judged}
-use Rattle.sky.specs.Request.{instant, start-refusals}
+use Rattle.sky.specs.Request.{instant, start-from, start-refusals}
 use Rattle.sky.specs.declared.request.Start.{Start}
 use Rattle.line_answers.specs.Printed.{answer-line, newline}
 use Rattle.line_answers.specs.declared.sheet.Arguments.{Arguments}
 use Rattle.line_answers.specs.declared.sheet.Row.{Row}
 use Rattle.line_answers.specs.declared.sheet.Row.the-variants as Rows
-
--- year month day hour minute second tenth, UT1 minus UTC, delta-T
-unfoldable pub start-from : List ℤ → Start
-start-from numbers =
-    record {
-      year = column numbers 0;
-      month = column numbers 1;
-      day = column numbers 2;
-      hour = column numbers 3;
-      minute = column numbers 4;
-      second = column numbers 5;
-      fraction = column numbers 6;
-      ut1 = column numbers 7;
-      delta = column numbers 8;
-    }
 
 -- TT, L' and mean sidereal
 unfoldable pub arguments : Instant → Arguments

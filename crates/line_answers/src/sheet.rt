@@ -18,7 +18,8 @@ ghost use Prim.Native.Nat.{_≤_};
 ghost use Rattle.text.specs.Decimal.{text-room, written};
 ghost use Rattle.numbers.specs.Refusal.{OneAnswer};
 ghost use Rattle.sky_vectors.specs.SkyRange.{Reachable};
-ghost use Rattle.line_answers.specs.Sheet.{start-from, arguments, row-answer, start-row, sheet-row, arguments-line, sheet-line};
+ghost use Rattle.sky.specs.Request.{start-from};
+ghost use Rattle.line_answers.specs.Sheet.{arguments, row-answer, start-row, sheet-row, arguments-line, sheet-line};
 
 // TT, and L' and the mean sidereal time in 10⁻⁸ degree.
 pub struct Arguments {

@@ -42,13 +42,7 @@ fn request_verdict(start: Start, point: Point, air: Air) -> Verdict
 }
 
 // The place, by a sine table that is lent.
-fn place_in(
-    table: &[u32; 361],
-    start: Start,
-    body: Body,
-    point: Point,
-    air: Air,
-) -> PlaceAnswer
+fn place_in(table: &[u32; 361], start: Start, body: Body, point: Point, air: Air) -> PlaceAnswer
     requires { ⌜ now table ≡ sines ⌝ }
     ensures { λ r. ⌜ OneAnswer place-answer (place start body point air) r ⌝ }
 {

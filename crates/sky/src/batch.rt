@@ -1,9 +1,4 @@
 // A batch of places into two lent buffers: nothing is written before every offset is judged.
-use sky_vectors::place::place_from;
-use sky_vectors::geocentric::Body;
-use sky_vectors::station::Point;
-use sky_vectors::station::Runner;
-use sky_vectors::station::runner_at;
 use super::request::Start;
 use super::request::instant_of;
 use super::request::moved;
@@ -15,6 +10,11 @@ use numbers::refusal::Verdict;
 use numbers::refusal::or_else;
 use numbers::refusal::unless;
 use numbers::sine_table::table;
+use sky_vectors::geocentric::Body;
+use sky_vectors::place::place_from;
+use sky_vectors::station::Point;
+use sky_vectors::station::Runner;
+use sky_vectors::station::runner_at;
 use sum_rules::instant::DAY;
 use sum_rules::instant::Instant;
 ghost use mathlib.Core.Path.{_≡_};

@@ -120,7 +120,10 @@ pub fn point_verdict(point: Point) -> Verdict
         Refusal::Latitude,
         is_between(-LATITUDE_LIMIT, point.latitude, LATITUDE_LIMIT),
     );
-    let by_height = unless(Refusal::Height, is_between(LOWEST_HEIGHT, point.height, HIGHEST_HEIGHT));
+    let by_height = unless(
+        Refusal::Height,
+        is_between(LOWEST_HEIGHT, point.height, HIGHEST_HEIGHT),
+    );
     or_else(by_longitude, or_else(by_latitude, by_height))
 }
 

@@ -1,7 +1,7 @@
 // The place as it is shown, in degrees.
 use super::air::Air;
-use sky_vectors::place::Place;
 use super::refraction::refraction;
+use sky_vectors::place::Place;
 ghost use mathlib.Core.Path.{_≡_};
 ghost use Prim.Native.Nat.{_≤_};
 ghost use lib.IntN.{natAbs};

@@ -1,17 +1,15 @@
 // Sidereal time at Greenwich, of UT.
-use super::instant::powers_at;
 use numbers::angle::Angle;
 use numbers::sine::cosine_in;
 use numbers::whole::floor_div;
 use numbers::whole::mul_div;
 use sum_rules::instant::DAY;
-use sum_rules::instant::Instant;
 use sum_rules::instant::Powers;
 ghost use mathlib.Core.Path.{_≡_};
 ghost use Prim.Native.Nat.{_≤_, _^_};
 ghost use lib.IntN.{natAbs};
 ghost use Rattle.number_rules.specs.SineTable.{sines};
-ghost use Rattle.sum_rules.specs.Instant.{furthest, Reached};
+ghost use Rattle.sum_rules.specs.Instant.{Reached};
 ghost use Rattle.sum_rules.specs.Sidereal.{mean, apparent};
 
 // The mean sidereal time, reduced to one turn. The powers are those of UT.
@@ -31,12 +29,4 @@ pub fn apparent_at(table: &[u32; 361], t: Powers, nutation: i64, obliquity: i64)
     ensures { λ r. ⌜ r ≡ apparent (t .n) nutation obliquity ⌝ }
 {
     mean_at(t) as i64 + floor_div(nutation * cosine_in(table, obliquity), 1_000_000_000)
-}
-
-// The mean sidereal time of an instant: the Earth turns by UT, not by TT.
-pub fn mean_sidereal(instant: Instant) -> u64
-    requires { ⌜ (natAbs (instant .ut) ≤ furthest) × (natAbs (instant .tt) ≤ furthest) ⌝ }
-    ensures { λ r. ⌜ r ≡ mean (instant .ut) ⌝ }
-{
-    mean_at(powers_at(instant.ut))
 }

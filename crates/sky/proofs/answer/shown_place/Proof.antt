@@ -64,7 +64,7 @@ returns c =
     let a = s e .args in
     let value = c .shown-at .ensures ∙ ap (shown (a .air)) (answered e .1) in (
       one-shown ((λ i. record { refusal = 0; value = value i })
-      ∙ sym (judged-value (first (request-refusals (a .start) (a .point) (a .air))) nothing-shown (shown (a .air) (place-at (a .body) (a .point) (instant (a .start)))) (answered e .0))),
+          ∙ sym (judged-value (first (request-refusals (a .start) (a .point) (a .air))) nothing-shown (shown (a .air) (place-at (a .body) (a .point) (instant (a .start)))) (answered e .0))),
       every-place-near (a .start) (a .body) (a .point) (a .air),
     )
 
@@ -74,8 +74,8 @@ returns-2 c =
     let e = c .before in
     let a = s₂ e .args in (
       one-shown ((λ i. record { refusal = sym (refused e) i; value = nothing-shown })
-      ∙ sym (judged-zeros (first (request-refusals (a .start) (a .point) (a .air))) nothing-shown (shown (a .air) (place-at (a .body) (a .point) (instant (a .start))))
-      (λ none. never-none (e .refusal .given .0 .0) (sym (refused e) ∙ none)))),
+          ∙ sym (judged-zeros (first (request-refusals (a .start) (a .point) (a .air))) nothing-shown (shown (a .air) (place-at (a .body) (a .point) (instant (a .start))))
+          (λ none. never-none (e .refusal .given .0 .0) (sym (refused e) ∙ none)))),
       every-place-near (a .start) (a .body) (a .point) (a .air),
     )
 
