@@ -26,10 +26,13 @@ within-reach i h = record { moon = moon-near (i .tt) (h .tt-near); sun = sun-nea
 
 pub every-place-near : EveryPlaceNear
 unfolding place
-every-place-near start body point air e =
-    let passes : first (request-refusals start point air) ≡ 0 =
-    sym (judged-refusal (first (request-refusals start point air)) nowhere (place-at body point (instant start))) ∙ e in
-    within-reach (instant start) (start-reachable start (start-passes start point (air-refusals air) passes))
+every-place-near start body point air = record { near = accepted }
+  where
+    accepted : place start body point air .refusal ≡ 0 → SumsNear (instant start .tt)
+    accepted e =
+        let passes : first (request-refusals start point air) ≡ 0 =
+        sym (judged-refusal (first (request-refusals start point air)) nowhere (place-at body point (instant start))) ∙ e in
+        within-reach (instant start) (start-reachable start (start-passes start point (air-refusals air) passes))
 
 -- a batch that is not refused has passed 1 to 9 and 12, and none of its offsets is late
 done : (refusal late count : ℕ)
@@ -46,8 +49,11 @@ done refusal late count e = go (eqb refusal 0) (eqb late count) (eqb-true refusa
 
 pub every-sample-near : EverySampleNear
 unfolding batch
-every-sample-near start point offsets m n e i h =
-    let both = done (first (room-refusals start point offsets m n)) (first-late (utc start) offsets) (length offsets) e in
-    let offset = getD offsets i 0 in
-    within-reach (later (instant start) offset)
-    (sample-reachable start offset (start-passes start point _ (both .0)) (all-in-time (utc start) offsets (both .1) i h))
+every-sample-near start point offsets m n = record { near = accepted }
+  where
+    accepted : batch start point offsets m n .refusal ≡ 0 → (i : ℕ) → i < length offsets → SumsNear (later (instant start) (getD offsets i 0) .tt)
+    accepted e i h =
+        let both = done (first (room-refusals start point offsets m n)) (first-late (utc start) offsets) (length offsets) e in
+        let offset = getD offsets i 0 in
+        within-reach (later (instant start) offset)
+        (sample-reachable start offset (start-passes start point _ (both .0)) (all-in-time (utc start) offsets (both .1) i h))

@@ -19,13 +19,12 @@ pub record SumsNear (n : ℤ) : Type 0 where
   pub sun : SunNear n
 
 -- behind a place or a shown place, whose refusals are the same
-abbrev pub PlaceNear : Start → Body → Point → Air → Type 0
-PlaceNear start body point air = place start body point air .refusal ≡ 0 → SumsNear (instant start .tt)
+pub record PlaceNear (start : Start) (body : Body) (point : Point) (air : Air) : Type 0 where
+  pub near : place start body point air .refusal ≡ 0 → SumsNear (instant start .tt)
 
 -- behind every sample of a batch, with buffers of m and n entries
-abbrev pub SamplesNear : Start → Point → List ℕ → ℕ → ℕ → Type 0
-SamplesNear start point offsets m n =
-    batch start point offsets m n .refusal ≡ 0 → (i : ℕ) → i < length offsets → SumsNear (later (instant start) (getD offsets i 0) .tt)
+pub record SamplesNear (start : Start) (point : Point) (offsets : List ℕ) (m n : ℕ) : Type 0 where
+  pub near : batch start point offsets m n .refusal ≡ 0 → (i : ℕ) → i < length offsets → SumsNear (later (instant start) (getD offsets i 0) .tt)
 
 -- THE TWO CLAIMS, for every request
 abbrev pub EveryPlaceNear : Type 0
