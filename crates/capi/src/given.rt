@@ -17,7 +17,7 @@ pub fn start_of(numbers: &[i64; 9]) -> Start
         second: numbers[5],
         fraction: numbers[6],
         ut1: numbers[7],
-        delta: numbers[8],
+        delta_t: numbers[8],
     }
 }
 

@@ -26,7 +26,7 @@ fn start_at(year: i64, second: i64) -> Start {
         second,
         fraction: 0,
         ut1: 0,
-        delta: 0,
+        delta_t: 0,
     }
 }
 

@@ -59,7 +59,7 @@ fn start_at(
         second,
         fraction: 0,
         ut1: 0,
-        delta: (tenths as u64 * SECOND / 10) as i64,
+        delta_t: (tenths as u64 * SECOND / 10) as i64,
     }
 }
 

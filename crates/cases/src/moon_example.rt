@@ -34,7 +34,7 @@ fn start() -> Start
         second: 0,
         fraction: 0,
         ut1: 0,
-        delta: DELTA,
+        delta_t: DELTA,
     }
 }
 

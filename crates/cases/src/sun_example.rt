@@ -38,7 +38,7 @@ fn start() -> Start
         second: 30,
         fraction: 0,
         ut1: 0,
-        delta: DELTA,
+        delta_t: DELTA,
     }
 }
 

@@ -44,7 +44,7 @@ padded-start row n i =
       second = padded-column row n 5 i;
       fraction = padded-column row n 6 i;
       ut1 = padded-column row n 7 i;
-      delta = padded-column row n 8 i;
+      «delta_t» = padded-column row n 8 i;
     }
 
 pub not-read : (numbers : Option (List ℤ)) → answer numbers .read ≡ false → record { refusal = 16; value = no-arguments } ≡ row-from numbers

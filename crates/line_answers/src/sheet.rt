@@ -46,7 +46,7 @@ pub fn start_from(numbers: [i64; 12]) -> Start
         second: numbers[5],
         fraction: numbers[6],
         ut1: numbers[7],
-        delta: numbers[8],
+        delta_t: numbers[8],
     }
 }
 

@@ -111,7 +111,7 @@ module _ (entry : ℕ → ℤ) (offsets : List ℕ) (before : List ℤ) where
 
 -- ---- what keeps every sample within reach
 pub sample-accepted : (s : Start) (offset : ℕ) → first (start-refusals s) ≡ 0 → is-late (utc s) offset ≡ false
-    → Accepted (date s .days) (elapsed s +ℤ pos offset) (s .ut1) (s .delta)
+    → Accepted (date s .days) (elapsed s +ℤ pos offset) (s .ut1) (s .«delta_t»)
 unfolding utc is-late
 sample-accepted s offset e in-time =
     let start = accepted s e in
@@ -134,7 +134,7 @@ unfolding instant
 sample-reachable s offset e in-time =
     let a = sample-accepted s offset e in-time in
     let d = pos day *ℤ date s .days in
-    let list = d ∷ elapsed s ∷ pos (day / 2) ∷ s .ut1 ∷ pos offset ∷ s .delta ∷ [] in
+    let list = d ∷ elapsed s ∷ pos (day / 2) ∷ s .ut1 ∷ pos offset ∷ s .«delta_t» ∷ [] in
     record {
       ut-near = subst (λ (z : ℤ). natAbs z ≤ furthest) (solveℤ (x0 :- x2 :+ (x1 :+ x4) :+ x3) ((x0 :- x2 :+ x1 :+ x3) :+ x4) list tt) (universal-near a);
       tt-near =

@@ -96,13 +96,13 @@ module _ (s : Start) (e : first (start-refusals s) ≡ 0) where
   abbrev by-ut1 : (5 unless between (minus ut1-limit) (s .ut1) (pos ut1-limit) ≡ 0) × (first (drop 3 (start-refusals s)) ≡ 0)
   by-ut1 = none (5 unless between (minus ut1-limit) (s .ut1) (pos ut1-limit)) (drop 3 (start-refusals s)) (by-clock .1)
 
-  abbrev by-delta : (6 unless between (minus delta-limit) (s .delta) (pos delta-limit) ≡ 0) × (first [] ≡ 0)
-  by-delta = none (6 unless between (minus delta-limit) (s .delta) (pos delta-limit)) [] (by-ut1 .1)
+  abbrev by-delta : (6 unless between (minus delta-limit) (s .«delta_t») (pos delta-limit) ≡ 0) × (first [] ≡ 0)
+  by-delta = none (6 unless between (minus delta-limit) (s .«delta_t») (pos delta-limit)) [] (by-ut1 .1)
 
   pub clock-passes : is-clock s ≡ true
   clock-passes = passes 3 (is-clock s) (by-clock .0)
 
-  pub accepted : Accepted (date s .days) (elapsed s) (s .ut1) (s .delta)
+  pub accepted : Accepted (date s .days) (elapsed s) (s .ut1) (s .«delta_t»)
   accepted =
       let days = accepted-days (s .year) (s .month) (s .day) (by-date .0) in
       let within = elapsed-in-day s (clock s clock-passes) in
@@ -117,7 +117,7 @@ module _ (s : Start) (e : first (start-refusals s) ≡ 0) where
         ut1-small =
             let size = between-size ut1-limit ut1-limit (s .ut1) (le-refl ut1-limit) (passes 4 (between (minus ut1-limit) (s .ut1) (pos ut1-limit)) (by-ut1 .0)) in
             omega arith;
-        delta-small = between-size delta-limit delta-limit (s .delta) (le-refl delta-limit) (passes 5 (between (minus delta-limit) (s .delta) (pos delta-limit)) (by-delta .0));
+        delta-small = between-size delta-limit delta-limit (s .«delta_t») (le-refl delta-limit) (passes 5 (between (minus delta-limit) (s .«delta_t») (pos delta-limit)) (by-delta .0));
       }
 
 pub start-reachable : (s : Start) → first (start-refusals s) ≡ 0 → Reachable (instant s)

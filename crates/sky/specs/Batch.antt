@@ -42,7 +42,7 @@ last-moment =
       second = pos 59;
       fraction = pos (second - 1);
       ut1 = pos 0;
-      delta = pos 0;
+      «delta_t» = pos 0;
     })
 
 unfoldable pub is-late : ℤ → ℕ → Bool

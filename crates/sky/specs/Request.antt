@@ -47,7 +47,7 @@ scale-refusals ut1 delta =
 
 -- 1 to 6
 abbrev pub start-refusals : Start → List ℕ
-start-refusals s = date-refusals (date s) ++ (clock-refusals s ++ scale-refusals (s .ut1) (s .delta))
+start-refusals s = date-refusals (date s) ++ (clock-refusals s ++ scale-refusals (s .ut1) (s .«delta_t»))
 
 -- 7 to 9: longitude within ±1,800,000,000, latitude within ±900,000,000, height -500 to 9,000 m
 abbrev pub point-refusals : Point → List ℕ
@@ -69,7 +69,7 @@ utc s = pos day *ℤ date s .days +ℤ elapsed s
 unfoldable pub instant : Start → Instant
 instant s =
     let ut = universal-time (date s .days) (elapsed s) (s .ut1) in
-    record { ut = ut; tt = terrestrial-time ut (s .delta) }
+    record { ut = ut; tt = terrestrial-time ut (s .«delta_t») }
 
 -- an instant so many units from another, before it where they are below zero
 abbrev pub moved : Instant → ℤ → Instant
@@ -87,5 +87,5 @@ start-from numbers =
       second = column numbers 5;
       fraction = column numbers 6;
       ut1 = column numbers 7;
-      delta = column numbers 8;
+      «delta_t» = column numbers 8;
     }

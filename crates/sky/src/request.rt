@@ -23,7 +23,6 @@ ghost use Rattle.sky_vectors.specs.SkyRange.{Reachable};
 ghost use Rattle.sky.specs.Request.{date, is-clock, date-refusals, clock-refusals, scale-refusals, start-refusals, point-refusals, elapsed, utc, instant, moved};
 
 // UTC in the Gregorian calendar, UT1 minus UTC, and delta-T. The last three count units of time (SECOND to a second).
-#[repr(C)]
 pub struct Start {
     pub year: i64,
     pub month: i64,
@@ -33,13 +32,13 @@ pub struct Start {
     pub second: i64,
     pub fraction: i64,
     pub ut1: i64,
-    pub delta: i64,
+    pub delta_t: i64,
 }
 
 // The last UT1 minus UTC and delta-T that are accepted, either way.
 const UT1: i64 = (9 * SECOND / 10) as i64;
 
-const DELTA: i64 = (8_000 * SECOND) as i64;
+const DELTA_T: i64 = (8_000 * SECOND) as i64;
 
 fn date_of(start: Start) -> DayCount
     ensures { λ r. ⌜ OneAnswer count-answer (date start) r ⌝ }
@@ -90,12 +89,12 @@ fn clock_verdict(start: Start) -> Verdict
 }
 
 // 5 and 6.
-pub fn scale_verdict(ut1: i64, delta: i64) -> Verdict
-    ensures { λ r. ⌜ verdict-number r ≡ first (scale-refusals ut1 delta) ⌝ }
+pub fn scale_verdict(ut1: i64, delta_t: i64) -> Verdict
+    ensures { λ r. ⌜ verdict-number r ≡ first (scale-refusals ut1 «delta_t») ⌝ }
 {
     let by_ut1 = unless(Refusal::Ut1, is_between(-UT1, ut1, UT1));
-    let by_delta = unless(Refusal::DeltaT, is_between(-DELTA, delta, DELTA));
-    or_else(by_ut1, by_delta)
+    let by_delta_t = unless(Refusal::DeltaT, is_between(-DELTA_T, delta_t, DELTA_T));
+    or_else(by_ut1, by_delta_t)
 }
 
 // The first of 1 to 6 that applies.
@@ -104,7 +103,7 @@ pub fn start_verdict(start: Start) -> Verdict
 {
     let by_date = date_verdict(date_of(start));
     let by_clock = clock_verdict(start);
-    let by_scale = scale_verdict(start.ut1, start.delta);
+    let by_scale = scale_verdict(start.ut1, start.delta_t);
     or_else(by_date, or_else(by_clock, by_scale))
 }
 
@@ -152,7 +151,7 @@ pub fn instant_of(start: Start) -> Instant
         days_in(date_of(start)),
         elapsed_of(start),
         start.ut1,
-        start.delta,
+        start.delta_t,
     )
 }
 

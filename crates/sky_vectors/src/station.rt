@@ -18,7 +18,6 @@ pub const LOWEST_HEIGHT: i64 = -500;
 pub const HIGHEST_HEIGHT: i64 = 9_000;
 
 // Longitude east-positive and latitude in 10⁻⁷ degree, height in metres.
-#[repr(C)]
 pub struct Point {
     pub longitude: i64,
     pub latitude: i64,

@@ -17,7 +17,7 @@ module _ (s : tie.Start) where
   ut1-fits : SFits w64 (s .args .start .ut1)
   ut1-fits = search needs
 
-  delta-fits : SFits w64 (s .args .start .delta)
+  delta-fits : SFits w64 (s .args .start .«delta_t»)
   delta-fits = search needs
 
 -- what `instant_at` is handed
@@ -34,8 +34,8 @@ module _ (c : tie.After-elapsed-of) where
   ut1-is : toZ w64 (ofZ w64 (s .args .start .ut1)) ≡ s .args .start .ut1
   ut1-is = toZ-ofZ w64 (s .args .start .ut1) (ut1-fits s)
 
-  delta-is : toZ w64 (ofZ w64 (s .args .start .delta)) ≡ s .args .start .delta
-  delta-is = toZ-ofZ w64 (s .args .start .delta) (delta-fits s)
+  delta-is : toZ w64 (ofZ w64 (s .args .start .«delta_t»)) ≡ s .args .start .«delta_t»
+  delta-is = toZ-ofZ w64 (s .args .start .«delta_t») (delta-fits s)
 
 date-of-requires : tie.Need-date-of-requires
 date-of-requires c κs = search needs

@@ -37,10 +37,10 @@ returns c =
     let by-delta = c .before in
     let by-ut1 = by-delta .before .before in
     let s = by-ut1 .before .before in
-    joined (5 unless between (minus ut1-limit) (s .args .ut1) (pos ut1-limit) ∷ []) (6 unless between (minus delta-limit) (s .args .delta) (pos delta-limit) ∷ [])
+    joined (5 unless between (minus ut1-limit) (s .args .ut1) (pos ut1-limit) ∷ []) (6 unless between (minus delta-limit) (s .args .delta-t) (pos delta-limit) ∷ [])
     (c .or-else .ensures)
     (judged-between 5 (minus ut1-limit) (s .args .ut1) (pos ut1-limit) (s .fits .ut1) (by-ut1 .unless .ensures) (by-ut1 .before .is-between .ensures))
-    (judged-between 6 (minus delta-limit) (s .args .delta) (pos delta-limit) (s .fits .delta) (by-delta .unless2 .ensures) (by-delta .before .is-between2 .ensures))
+    (judged-between 6 (minus delta-limit) (s .args .delta-t) (pos delta-limit) (s .fits .delta-t) (by-delta .unless2 .ensures) (by-delta .before .is-between2 .ensures))
 
 pub scale-verdict-spec : {M : Type 1} → statement M
 scale-verdict-spec =

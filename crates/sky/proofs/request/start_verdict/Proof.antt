@@ -17,7 +17,7 @@ module _ (s : tie.Start) where
   ut1-fits : SFits w64 (s .args .start .ut1)
   ut1-fits = search needs
 
-  delta-fits : SFits w64 (s .args .start .delta)
+  delta-fits : SFits w64 (s .args .start .«delta_t»)
   delta-fits = search needs
 
 date-of-requires : tie.Need-date-of-requires
@@ -45,11 +45,11 @@ returns c =
     let by-date = by-clock .before in
     let s = by-date .before .before in
     let start = s .args .start in
-    let scales : scale-refusals _ _ ≡ scale-refusals (start .ut1) (start .delta) =
-    λ i. scale-refusals (toZ-ofZ w64 (start .ut1) (ut1-fits s) i) (toZ-ofZ w64 (start .delta) (delta-fits s) i) in
-    joined (date-refusals (date start)) (clock-refusals start ++ scale-refusals (start .ut1) (start .delta)) (c .or-else2 .ensures)
+    let scales : scale-refusals _ _ ≡ scale-refusals (start .ut1) (start .«delta_t») =
+    λ i. scale-refusals (toZ-ofZ w64 (start .ut1) (ut1-fits s) i) (toZ-ofZ w64 (start .«delta_t») (delta-fits s) i) in
+    joined (date-refusals (date start)) (clock-refusals start ++ scale-refusals (start .ut1) (start .«delta_t»)) (c .or-else2 .ensures)
     (by-date .date-verdict .ensures ∙ ap (λ (a : DayAnswer). first (date-refusals a)) (by-date .before .date-of .ensures .equal))
-    (joined (clock-refusals start) (scale-refusals (start .ut1) (start .delta)) (c .before .or-else .ensures) (by-clock .clock-verdict .ensures)
+    (joined (clock-refusals start) (scale-refusals (start .ut1) (start .«delta_t»)) (c .before .or-else .ensures) (by-clock .clock-verdict .ensures)
     (by-scale .scale-verdict .ensures ∙ ap first scales))
 
 pub start-verdict-spec : {M : Type 1} → statement M
