@@ -60,8 +60,8 @@ figures:
 lib:
 	$(needs_rt)
 	@echo "proving and building the archive: some minutes the first time, a line for each crate"
-	@rt staticlib capi | grep --line-buffered '^rt: '
 	@mkdir -p $(dir $(LIB))
+	@rt staticlib capi 2>&1 | tee $(LIB:.a=.log) | grep --line-buffered '^rt: ' || { tail -n 20 $(LIB:.a=.log) >&2; exit 1; }
 	@cp target/staticlib/libcapi.a $(LIB)
 	@echo "$(LIB)"
 
