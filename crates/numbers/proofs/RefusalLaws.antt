@@ -6,9 +6,11 @@ use Prim.Native.Nat.{_<_, suc, ℕ}
 use native.Mathlib.Omega.{arith}
 use lib.Dec.{eqb, lit<}
 use borrow.Author.Tests.{eqb-false, eqb-true}
-use Rattle.numbers.specs.Refusal.{OneAnswer, _else_, _unless_, first, number}
+use Rattle.numbers.specs.Refusal.{OneAnswer, VerdictsTold, _else_, _unless_, first, number}
 use Rattle.numbers.specs.declared.refusal.Refusal.{Refusal}
 use Rattle.numbers.specs.declared.refusal.Refusal.the-variants as Of
+use Rattle.numbers.specs.declared.refusal.Verdict.{Verdict}
+use Rattle.numbers.specs.declared.refusal.Verdict.the-variants as Says
 
 -- what is told apart by its numbers is one answer
 pub one-answer : {A B : Type 0} {numbers : A → B} → ((x y : A) → numbers x ≡ numbers y → x ≡ y) → {answer : A} {rule : B} → numbers answer ≡ rule → OneAnswer numbers rule answer
@@ -61,6 +63,12 @@ number-above Of.NotALine = lit< tt
 -- an answer that is not refused is no refusal
 pub never-none : (refusal : Refusal) → number refusal ≡ 0 → ⊥
 never-none refusal e = omega (arith, number-above refusal)
+
+pub verdicts-told : VerdictsTold
+verdicts-told Says.Passed Says.Passed same = refl
+verdicts-told Says.Passed (Says.Refused refusal) same = absurd (never-none refusal (sym same))
+verdicts-told (Says.Refused refusal) Says.Passed same = absurd (never-none refusal same)
+verdicts-told (Says.Refused x) (Says.Refused y) same = ap Says.Refused (number-tells x y same)
 
 -- 13 is none of them
 pub never-late : (refusal : Refusal) → number refusal ≡ 13 → ⊥

@@ -31,6 +31,10 @@ abbrev pub verdict-number : Verdict → ℕ
 verdict-number Says.Passed = 0
 verdict-number (Says.Refused refusal) = number refusal
 
+-- one verdict and no other has a number, so that an equation with it nails the verdict
+abbrev pub VerdictsTold : Type 0
+VerdictsTold = (x y : Verdict) → verdict-number x ≡ verdict-number y → x ≡ y
+
 -- n is given when not: 0 where the check passes
 infix 68 _unless_
 abbrev pub _unless_ : ℕ → Bool → ℕ
