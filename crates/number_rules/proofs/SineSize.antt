@@ -14,6 +14,7 @@ use Rattle.arithmetic.proofs.Sizes.{abs-neg}
 use Rattle.arithmetic.proofs.Table.{at, every}
 use Rattle.number_rules.specs.Angle.{full-turn, half-turn, quarter-turn, reduced}
 use Rattle.number_rules.specs.Sine.{cosine, entry, fold, half-fold, negated-from-half, quarter-sine, radians, rest-cosine, rest-sine, sine, sine-at}
+use Rattle.number_rules.specs.SineAccuracy.{SineSize}
 use Rattle.number_rules.specs.SineTable.{sines}
 use Rattle.number_rules.proofs.SineLaws.{cosine-is, fold-high, fold-low, fold-most, half-high, half-low, reduced-below, sign-high, sign-low}
 use Rattle.number_rules.proofs.SineSteps.{radians-most, rest-cosine-most, rest-sine-most, square-most}
@@ -113,6 +114,9 @@ sine-most x = sine-at-most (reduced x) (reduced-below x)
 pub cosine-most : (x : ℤ) → natAbs (cosine x) ≤ 1_000_000_001
 unfolding cosine
 cosine-most x = sine-most (x +ℤ pos quarter-turn)
+
+pub sine-size : SineSize
+sine-size x = (sine-most x, cosine-most x)
 
 -- the bound is sharp
 pub sine-peak : sine (pos 8_999_869_268) ≡ pos 1_000_000_001

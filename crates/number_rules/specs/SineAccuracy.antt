@@ -1,5 +1,6 @@
 -- Sine lies within 6 units of the reference (01, "Sine"), and so does cosine: at every angle in 10⁻⁸ degree, reduced or not.
-use lib.IntN.{ℤ}
+use Prim.Native.Nat.{_≤_}
+use lib.IntN.{natAbs, ℤ}
 use Rattle.exact.specs.Fraction.{Within, _*q_, _-q_, _over_, nat, whole, ℚ}
 use Rattle.exact.specs.Reference.{cos°, sin°}
 use Rattle.number_rules.specs.Sine.{cosine, sine}
@@ -17,3 +18,7 @@ SineNear = (x : ℤ) → SixFrom (sine x) (sin° (degrees x))
 
 abbrev pub CosineNear : Type 0
 CosineNear = (x : ℤ) → SixFrom (cosine x) (cos° (degrees x))
+
+-- rounding may pass 10⁹ by one, and no more
+abbrev pub SineSize : Type 0
+SineSize = (x : ℤ) → (natAbs (sine x) ≤ 1_000_000_001) × (natAbs (cosine x) ≤ 1_000_000_001)

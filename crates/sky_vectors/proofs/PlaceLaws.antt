@@ -9,12 +9,11 @@ use lib.Signed.{_≤ℤ_, ltZ}
 use Rattle.numbers.proofs.Machine.{lit, not-less}
 use Rattle.number_rules.specs.Angle.{quarter-turn}
 use Rattle.numbers.specs.declared.sine.SineCosine.{SineCosine}
-use Rattle.sky_vectors.proofs.SkyMirror.{arctangent-most}
+use Rattle.numbers.proofs.ArctangentLaws.{arctangent-below}
 use Rattle.sky_vectors.specs.Horizon.{azimuth, clamped, elevation, horizon, level, lowered, slope}
-use Rattle.sky_vectors.specs.Place.{InTurns, direction, place-at, place-from, place-towards}
+use Rattle.sky_vectors.specs.Place.{EveryPlaceInTurns, InTurns, direction, place-at, place-from, place-towards}
 use Rattle.sky_vectors.specs.Station.{runner}
 use Rattle.sky_vectors.specs.declared.geocentric.Body.{Body}
-use Rattle.sky_vectors.specs.declared.station.Point.{Point}
 use Rattle.sky_vectors.specs.declared.station.Runner.{Runner}
 use Rattle.sky_vectors.specs.declared.vector.Vector.{Vector}
 use Rattle.sum_rules.specs.declared.instant.Instant.{Instant}
@@ -40,12 +39,16 @@ pub place-towards-in-turns : (φ : SineCosine) (v : Vector) → InTurns (place-t
 unfolding place-towards azimuth elevation
 place-towards-in-turns φ v =
     let h = horizon φ v in
-    record { azimuth-size = arctangent-most (h .east) (h .north); elevation-size = clamped-most (lowered (slope (h .up) (level h))) }
+    record {
+      azimuth-natural = refl;
+      azimuth-below = arctangent-below (h .east) (h .north);
+      elevation-size = clamped-most (lowered (slope (h .up) (level h)));
+    }
 
 pub place-from-in-turns : (body : Body) (runner : Runner) (instant : Instant) → InTurns (place-from body runner instant)
 unfolding place-from
 place-from-in-turns body runner instant = place-towards-in-turns (runner .latitude) (direction body runner instant)
 
-pub place-at-in-turns : (body : Body) (point : Point) (instant : Instant) → InTurns (place-at body point instant)
+pub place-at-in-turns : EveryPlaceInTurns
 unfolding place-at
 place-at-in-turns body point instant = place-from-in-turns body (runner point) instant

@@ -1,6 +1,7 @@
 -- From the centre to the runner (01, the section of that name).
-use Prim.Native.Nat.{_≤_}
-use lib.IntN.{natAbs}
+use mathlib.Core.Path.{_≡_}
+use Prim.Native.Nat.{_<_, _≤_}
+use lib.IntN.{natAbs, pos}
 use Rattle.number_rules.specs.Angle.{full-turn, quarter-turn}
 use Rattle.numbers.specs.declared.sine.SineCosine.{SineCosine}
 use Rattle.sum_rules.specs.declared.instant.Instant.{Instant}
@@ -47,7 +48,11 @@ place-from body runner instant = place-towards (runner .latitude) (direction bod
 unfoldable pub place-at : Body → Point → Instant → Place
 place-at body point instant = place-from body (runner point) instant
 
--- what every place keeps to
+-- what every place keeps to: azimuth 0 to 35,999,999,999, elevation within ±90 degrees
 pub record InTurns (place : Place) : Type 0 where
-  pub azimuth-size : natAbs (place .azimuth) ≤ full-turn
+  pub azimuth-natural : place .azimuth ≡ pos (natAbs (place .azimuth))
+  pub azimuth-below : natAbs (place .azimuth) < full-turn
   pub elevation-size : natAbs (place .elevation) ≤ quarter-turn
+
+abbrev pub EveryPlaceInTurns : Type 0
+EveryPlaceInTurns = (body : Body) (point : Point) (instant : Instant) → InTurns (place-at body point instant)

@@ -1,5 +1,6 @@
 -- `sky::shown::shown_at` meets its contract.
 use mathlib.Core.Path.{_∙_, ap}
+use native.Mathlib.Nat.{le-of-lt}
 use borrow.Author.Needs.{needs}
 use Rattle.numbers.proofs.Machine.{Mirror, asked}
 use Rattle.sky.specs.Double.{_+d_}
@@ -11,7 +12,7 @@ use Rattle.sky.proofs.shown.shown_at.Tie as tie
 
 module _ (a : tie.Start) where
   abbrev azimuth : Mirror
-  azimuth = field (a .args .place .azimuth) (a .pre .1 .azimuth-size) tt
+  azimuth = field (a .args .place .azimuth) (le-of-lt (a .pre .1 .azimuth-below)) tt
 
   abbrev elevation : Mirror
   elevation = field (a .args .place .elevation) (a .pre .1 .elevation-size) tt
@@ -20,7 +21,7 @@ refraction-requires : tie.Need-refraction-requires
 refraction-requires c κs = search needs
 
 degrees-requires : tie.Need-degrees-requires
-degrees-requires c κs = search needs
+degrees-requires c κs = asked (azimuth (c .before .before .before)) tt
 
 degrees-requires-2 : tie.Need-degrees-requires-2
 degrees-requires-2 c κs = asked (elevation (c .before .before .before .before)) tt
