@@ -21,7 +21,7 @@ use Rattle.sky.proofs.AnswerLaws.{judged-refusal}
 use Rattle.sky.proofs.BatchLaws.{all-in-time, sample-reachable}
 use Rattle.sky.proofs.RequestLaws.{start-passes, start-reachable}
 
-within-reach : (i : Instant) → Reachable i → SumsNear (i .tt)
+pub within-reach : (i : Instant) → Reachable i → SumsNear (i .tt)
 within-reach i h = record { moon = moon-near (i .tt) (h .tt-near); sun = sun-near (i .tt) (h .tt-near) }
 
 pub every-place-near : EveryPlaceNear

@@ -1,0 +1,52 @@
+-- What a reader wants to know of a day (02, Item 1), beside the equations.
+use mathlib.Core.Bool.{Bool, false, true}
+use mathlib.Core.Path.{_≡_}
+use Prim.Native.Nat.{_%_, _/_, _<_, ℕ}
+use lib.IntN.{_-ℤ_, pos}
+use Rattle.sky.specs.Request.{instant}
+use Rattle.sky_vectors.specs.declared.geocentric.Body.{Body}
+use Rattle.sky_vectors.specs.declared.station.Point.{Point}
+use Rattle.day.specs.Crossing.{at-minute, at-none, first-minute, is-at}
+use Rattle.day.specs.Curve.{minute-of, minutes}
+use Rattle.day.specs.Request.{clock, days}
+use Rattle.day.specs.declared.crossing.Event.{Event}
+use Rattle.day.specs.declared.crossing.Event.the-variants.{Rise, Set}
+use Rattle.day.specs.declared.request.Date.{Date}
+
+-- ---- the minutes are 01's instants
+
+-- minute m is hh:mm:00.0 of the date
+abbrev pub MinutesAreClocks : Type 0
+MinutesAreClocks = (date : Date) (m : ℕ) → minute-of date (days date) m ≡ instant (clock date (m / 60) (m % 60))
+
+-- the minute before 0 is 23:59 of the day before, with the same UT1 difference and delta-T
+abbrev pub MinuteBefore : Type 0
+MinuteBefore =
+    (date before : Date) → days before ≡ days date -ℤ pos 1 → before .ut1 ≡ date .ut1 → before .«delta_t» ≡ date .«delta_t»
+    → minute-of date (days date -ℤ pos 1) 1439 ≡ instant (clock before 23 59)
+
+-- ---- THE TWO CLAIMS on each answer: which minute is given, and when none is
+
+-- m is such a minute, and none before it is
+pub record First (test : ℕ → Bool) (m : ℕ) : Type 0 where
+  pub in-day : m < minutes
+  pub holds : test m ≡ true
+  pub none-before : (k : ℕ) → k < m → test k ≡ false
+
+-- no minute of the day is one
+abbrev pub Nowhere : (ℕ → Bool) → Type 0
+Nowhere test = (m : ℕ) → m < minutes → test m ≡ false
+
+-- a minute is given exactly where it is the first, and none exactly when no minute of the day is one
+pub record FirstOrNone (test : ℕ → Bool) : Type 0 where
+  pub given : (m : ℕ) → first-minute test ≡ at-minute m → First test m
+  pub first : (m : ℕ) → First test m → first-minute test ≡ at-minute m
+  pub none-given : first-minute test ≡ at-none → Nowhere test
+  pub nowhere : Nowhere test → first-minute test ≡ at-none
+
+abbrev pub EveryFirstOrNone : Type 0
+EveryFirstOrNone = (event : Event) (date : Date) (body : Body) (point : Point) → FirstOrNone (is-at event date body point)
+
+-- a rise and a set never fall on one minute
+abbrev pub NeverTogether : Type 0
+NeverTogether = (date : Date) (body : Body) (point : Point) (m : ℕ) → is-at Rise date body point m ≡ true → is-at Set date body point m ≡ true → ⊥
