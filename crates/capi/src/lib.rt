@@ -9,3 +9,4 @@ pub mod lent;
 pub mod middle;
 pub mod place;
 pub mod refraction;
+pub mod rise_set;
