@@ -2,7 +2,7 @@
 //!
 //! Answers go to the standard output, sentences to the standard error; the status is 0, 1 where an answer is refused or cannot be written, and 2 where the words of the
 //! command line are not right. An answer is complete before the first byte of it is written. What is proved is the library below (`sky` has every call of it), not this
-//! program: reading words, zones, the table of delta-T and the picture are ordinary Rust with tests.
+//! program: reading words, zones, the table of delta-T and the pictures are ordinary Rust with tests.
 #![forbid(unsafe_code)]
 
 mod batch;
@@ -17,7 +17,9 @@ mod middle;
 mod observer;
 mod picture;
 mod place;
+mod rise_set;
 mod sky;
+mod svg;
 mod time;
 mod words;
 

@@ -6,6 +6,7 @@ use std::process::{Command, Output, Stdio};
 
 const BOULDER: [&str; 8] = ["--lat", "39.742476", "--lon", "-105.1786", "--height", "1830", "--delta-t", "67"];
 const DUNEDIN: [&str; 6] = ["--lat", "45.5S", "--lon", "170.5E", "--zone", "+13:00"];
+const TROMSO: [&str; 6] = ["--lat", "69.6496N", "--lon", "18.956E", "--zone", "+01:00"];
 
 fn raddlehue(words: &[&str]) -> Command {
     let mut command = Command::new(env!("CARGO_BIN_EXE_raddlehue"));
@@ -43,6 +44,64 @@ fn the_published_example() {
 
     let zoned = answer(&[&["place", "sun", "2003-10-17T12:30:30-07:00"], &BOULDER[..]].concat(), "");
     assert!(zoned.contains("(2003-10-17T19:30:30Z)") && zoned.contains("194.34024073"), "{zoned}");
+}
+
+// 004 has 13:12:43 and 00:20:19 UT, the set being that of the day before in Boulder.
+#[test]
+fn the_published_sunrise() {
+    let text = answer(&[&["day", "2003-10-17"], &BOULDER[..]].concat(), "");
+    assert!(text.contains("the Sun sets at 00:21 and rises at 13:13\n"), "{text}");
+    let zoned = answer(&[&["day", "2003-10-17", "--zone", "-07:00"], &BOULDER[..]].concat(), "");
+    assert!(zoned.contains("the Sun rises at 06:13 and sets at 17:19\n"), "{zoned}");
+    let before = answer(&[&["day", "2003-10-16", "--zone", "-07:00"], &BOULDER[..]].concat(), "");
+    assert!(before.contains(" and sets at 17:21\n"), "{before}");
+}
+
+#[test]
+fn a_body_that_does_not_rise_or_set() {
+    let (tromso, greenwich) = (&TROMSO[..4], &["--lat", "51.4769", "--lon", "0", "--delta-t", "69.1"][..]);
+    let days = [
+        (
+            ["day", "2026-06-21"],
+            tromso,
+            "the Sun does not set: it stays up all day",
+            "Sun: does not set, up all day",
+            "\"sun_rise_time\": null, \"sun_set_time\": null, \"sun_stays\": \"up\"",
+            ",,,up,",
+        ),
+        (
+            ["day", "2026-12-21"],
+            tromso,
+            "the Sun does not rise: it stays below the horizon all day",
+            "Sun: does not rise, down all day",
+            "\"sun_rise_time\": null, \"sun_set_time\": null, \"sun_stays\": \"down\"",
+            ",,,down,",
+        ),
+        (
+            ["day", "2026-11-03"],
+            greenwich,
+            "the Moon sets at 14:18 and does not rise on this day",
+            "Moon: sets 14:18, does not rise",
+            "\"moon_rise_time\": null, \"moon_set_time\": \"2026-11-03T14:18:00Z\", \"moon_stays\": null",
+            ",,2026-11-03T14:18:00Z,\r\n",
+        ),
+        (
+            ["day", "2026-11-18"],
+            greenwich,
+            "the Moon rises at 13:26 and does not set on this day",
+            "Moon: rises 13:26, does not set",
+            "\"moon_rise_time\": \"2026-11-18T13:26:00Z\", \"moon_set_time\": null, \"moon_stays\": null",
+            ",2026-11-18T13:26:00Z,,\r\n",
+        ),
+    ];
+    for (day, place, sentence, short, json, csv) in days {
+        let said = |words: &[&str]| answer(&[&day[..], words, place].concat(), "");
+        assert!(said(&[]).contains(&format!("\n{sentence}\n")), "{}", said(&[]));
+        assert!(said(&["--json"]).contains(json), "{}", said(&["--json"]));
+        assert!(said(&["--csv"]).contains(csv), "{}", said(&["--csv"]));
+        let picture = answer(&[&["picture", day[1]], place].concat(), "");
+        assert!(picture.contains(&format!(">{short}</text>")), "{short}");
+    }
 }
 
 #[test]
@@ -119,7 +178,7 @@ fn forms_have_units_in_their_names() {
     assert!(csv.starts_with(
         "time,sun_azimuth_degrees,sun_elevation_degrees,moon_azimuth_degrees,moon_elevation_degrees,ut1_minus_utc_seconds,"
     ));
-    assert!(csv.split_terminator("\r\n").all(|row| columns(row) == 9 && !row.contains(['\r', '\n'])), "{csv}");
+    assert!(csv.split_terminator("\r\n").all(|row| columns(row) == 15 && !row.contains(['\r', '\n'])), "{csv}");
 }
 
 #[test]
