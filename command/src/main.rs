@@ -22,6 +22,7 @@ mod sky;
 mod svg;
 mod time;
 mod words;
+mod year;
 
 use failure::{quoted, Failure};
 use std::ffi::OsString;
@@ -29,7 +30,8 @@ use std::io::{self, Write};
 use std::process::ExitCode;
 use words::{Command, Words};
 
-const COMMANDS: [&Command; 5] = [&day::COMMAND, &place::COMMAND, &batch::COMMAND, &middle::COMMAND, &picture::COMMAND];
+const COMMANDS: [&Command; 6] =
+    [&day::COMMAND, &place::COMMAND, &batch::COMMAND, &middle::COMMAND, &picture::COMMAND, &year::COMMAND];
 
 const ABOUT: &str = "raddlehue: where the Sun and the Moon stand
 ";

@@ -188,6 +188,7 @@ fn no_locale_changes_a_byte() {
         &["day", "2026-10-10", "--json"],
         &["day", "2026-10-10", "--csv"],
         &["picture", "2026-10-10"],
+        &["year", "2026"],
     ];
     for words in commands {
         let in_locale =
@@ -203,7 +204,7 @@ fn help_and_version_are_answers() {
     let help = answer(&["--help"], "");
     let fits = |page: &str| page.lines().all(|line| line.len() <= 80);
     assert!(fits(&help), "a page fits a terminal");
-    for command in ["day", "place", "batch", "middle", "picture"] {
+    for command in ["day", "place", "batch", "middle", "picture", "year"] {
         assert!(help.contains(&format!("raddlehue {command} ")), "{command}");
         let page = answer(&[command, "--help"], "");
         assert!(page.starts_with(&format!("raddlehue {command} ")) && fits(&page), "{command}");
@@ -261,12 +262,62 @@ fn no_path_jumps() {
     }
 }
 
+// ---- a year
+
+#[test]
+fn a_year_is_its_days() {
+    let table = answer(&[&["year", "2026", "--csv"], &TROMSO[..]].concat(), "");
+    let rows: Vec<Vec<&str>> = table.split_terminator("\r\n").map(|row| row.split(',').collect()).collect();
+    assert_eq!(rows[0][..4], ["date", "sun_rise_time", "sun_set_time", "sun_stays"]);
+    assert!(rows.len() == 366 && rows.iter().all(|row| row.len() == 8));
+    assert_eq!((rows[1][0], rows[365][0]), ("2026-01-01", "2026-12-31"));
+    for index in [1, 15, 16, 100, 137, 138, 205, 206, 207, 331, 332, 365] {
+        let date = rows[index][0];
+        let day = answer(&[&["day", date, "--csv", "--every", "1440"], &TROMSO[..]].concat(), "");
+        let day: Vec<&str> = day.lines().nth(1).unwrap().split(',').collect();
+        assert_eq!(rows[index][1..4], day[9..12], "{date}");
+        assert_eq!(rows[index][4..], day[5..9], "{date}");
+    }
+    let staying = |side: &str| rows.iter().filter(|row| row[3] == side).count();
+    assert_eq!((staying("up"), staying("down")), (68, 48));
+    assert_eq!(rows.iter().filter(|row| row[1].is_empty() != row[2].is_empty()).count(), 1);
+}
+
+#[test]
+fn a_year_can_be_heard_and_read() {
+    let svg = answer(&[&["year", "2024", "--delta-t", "69.2"], &TROMSO[..]].concat(), "");
+    for part in [
+        "<title id=\"raddlehue-title\">Sunrise and sunset in 2024, 69.6496° N, 18.956° E, UTC+01:00</title>",
+        "<desc id=\"raddlehue-desc\">Sunrise and sunset through 2024 from latitude 69.6496 N, longitude 18.956 E, height 0 m, times in UTC+01:00.",
+        "up all day on ",
+        "down all day on ",
+        "role=\"img\"",
+        "prefers-color-scheme: dark",
+        "viewBox=\"0 0 1000 ",
+        "delta-T 69.2 s (given)",
+        "width=\"878.4\"",
+    ] {
+        assert!(svg.contains(part), "{part}");
+    }
+    assert!(svg.contains("stroke-dasharray"), "the line of sunset is told apart without colour");
+    assert!(svg.contains("font: 36px") && svg.matches("font-size").count() == 1, "text has at least 3.5 % of the width");
+    assert!(!svg.contains("NaN") && !svg.contains("inf"));
+}
+
+// At a pole the Sun rises on one day of the year and sets on another: each is a mark, since no line goes through it.
+#[test]
+fn a_year_at_a_pole() {
+    let svg = answer(&["year", "2026", "--lat", "90S", "--lon", "0"], "");
+    assert!(svg.contains("<path class=\"rise\" d=\"\"/>") && svg.contains("<path class=\"set\" d=\"\"/>"));
+    assert_eq!((svg.matches("class=\"rise-mark\"").count(), svg.matches("class=\"set-mark\"").count()), (1, 1));
+}
+
 // ---- streams
 
 #[cfg(target_os = "linux")]
 #[test]
 fn a_full_disk_is_an_error() {
-    for words in [&["day", "2026-10-10"][..], &["picture", "2026-10-10"]] {
+    for words in [&["day", "2026-10-10"][..], &["picture", "2026-10-10"], &["year", "2026"]] {
         let full = OpenOptions::new().write(true).open("/dev/full").unwrap();
         let output = raddlehue(&[words, &DUNEDIN].concat()).stdout(full).output().unwrap();
         assert_eq!(output.status.code(), Some(1));

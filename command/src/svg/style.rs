@@ -10,6 +10,9 @@ pub struct Palette {
     /// The grounds of a day's paths.
     pub sky: &'static str,
     pub ground: &'static str,
+    /// The grounds of a year, where lines stand and no text does.
+    pub light: &'static str,
+    pub dark: &'static str,
 }
 
 const LIGHT: Palette = Palette {
@@ -21,6 +24,8 @@ const LIGHT: Palette = Palette {
     moon: "#23508f",
     sky: "#f3f8fd",
     ground: "#eee7da",
+    light: "#fff3c9",
+    dark: "#b4c1d6",
 };
 
 const DARK: Palette = Palette {
@@ -32,6 +37,8 @@ const DARK: Palette = Palette {
     moon: "#9ac7ff",
     sky: "#141d29",
     ground: "#2b2519",
+    light: "#5a4d22",
+    dark: "#0a1422",
 };
 
 /// A style sheet: what every picture has, a picture's own shapes, and its colours from each palette.
@@ -76,9 +83,10 @@ mod tests {
                 assert!(contrast(colour, ground) >= least, "{colour} on {ground}: {}", contrast(colour, ground));
             }
         };
-        for Palette { page, text, grid, horizon, sun, moon, sky, ground } in [LIGHT, DARK] {
+        for Palette { page, text, grid, horizon, sun, moon, sky, ground, light, dark } in [LIGHT, DARK] {
             reaches(&[text, sun, moon], &[page, sky, ground], 4.5);
             reaches(&[grid, horizon], &[page, sky, ground], 3.0);
+            reaches(&[horizon, sun, moon], &[page, light, dark], 3.0);
         }
     }
 }
