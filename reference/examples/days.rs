@@ -39,7 +39,7 @@ fn answer(body: Body, date: Date, point: Point) -> String {
 }
 
 /// The line with its answer, or nothing where it is no question.
-fn answered(line: &str) -> Option<String> {
+pub fn answered(line: &str) -> Option<String> {
     if line.starts_with('#') {
         return Some(line.to_string());
     }
