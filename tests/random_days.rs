@@ -65,11 +65,11 @@ fn drawn(random: &mut Random) -> ([i64; 8], u32) {
     (numbers, random.below(2) as u32)
 }
 
-// The same; one in three is moved to a point where the body crosses the threshold next to minute 0, or to another minute.
+// The same; one in three is moved to a point where the body crosses the threshold next to minute 0, to the minute before it, or to any other.
 pub fn accepted(random: &mut Random) -> ([i64; 8], u32) {
     let (mut numbers, body) = drawn(random);
     if random.one_in(3) {
-        let minute = random.field(0, 1439);
+        let minute = if random.one_in(2) { random.between(-1, 0) } else { random.field(0, 1439) };
         let [before, after] = crossing_at(minute, &numbers, body);
         numbers[5] = if random.one_in(2) { before } else { after };
     }
@@ -98,8 +98,10 @@ fn reduced(longitude: i64) -> i64 {
     (longitude + HALF_TURN_E7).rem_euclid(2 * HALF_TURN_E7) - HALF_TURN_E7
 }
 
+// At minute -1 it is the day before, within the month: on its first day the body is never up then.
 fn is_up(minute: i64, numbers: &[i64; 8], body: u32, longitude: i64) -> bool {
     let [year, month, day, ut1, delta_t, ..] = *numbers;
+    let (day, minute) = if minute < 0 { (day - 1, 1439) } else { (day, minute) };
     let start = reference::Start { year, month, day, hour: minute / 60, minute: minute % 60, second: 0, tenth: 0, ut1, delta_t };
     let point = reference::Point { longitude: reduced(longitude), ..point_of(numbers) };
     reference::place(start, body_of(body), point, reference::Air::None).is_ok_and(|place| place.elevation >= THRESHOLD)
