@@ -76,8 +76,8 @@ fn work(table: &[u32; 361], date: Date, body: Body, point: Point, elevations: &m
     RiseSet { rise, set }
 }
 
-// The curve, whose entry m is the elevation without refraction at minute m, in 10⁻⁸ degree, into a lent array, and the first rise and the first set of the day. It is
-// worked in an array of its own and kept whole, or not at all.
+// The curve into a lent array, its entry m the elevation without refraction at minute m, in 10⁻⁸ degree; and the first rise and the first set of the day. Nothing is
+// written before the request is judged.
 pub fn rise_and_set(
     date: Date,
     body: Body,
@@ -90,9 +90,8 @@ pub fn rise_and_set(
 {
     match day_verdict(date, point) {
         Verdict::Passed => {
-            let mut curve = [0; MINUTES];
-            let seen = work(&table(), date, body, point, &mut curve);
-            *kept = curve;
+            *kept = [0; MINUTES];
+            let seen = work(&table(), date, body, point, kept);
             RiseSetAnswer::Seen(seen)
         }
         Verdict::Refused(refusal) => RiseSetAnswer::Refused(refusal),

@@ -28,11 +28,8 @@ module _ (c : tie.After-enum-told) where
 table-requires : tie.Need-table-requires
 table-requires c κs = search needs
 
-slice-aggregate-work : tie.Need-slice-aggregate-work
-slice-aggregate-work c = search needs
-
 work-requires : tie.Need-work-requires
-work-requires c κs = ((c .before .before .table .ensures, passes (c .before .before .before)), refl)
+work-requires c κs = ((c .before .before .table .ensures, passes (c .before .before .before .before)), refl)
 
 enum-known-refusal : tie.Need-enum-known-refusal
 enum-known-refusal c = search needs
@@ -40,7 +37,7 @@ enum-known-refusal c = search needs
 returns : tie.Need-returns
 unfolding rise-and-set
 returns c =
-    let worked = c .before .work .ensures in
+    let worked = c .work .ensures in
     let e = c .before .before .before .before .before in
     let a = s e .args in
     let value = crossings (a .date) (a .body) (a .point) in
@@ -62,4 +59,4 @@ returns-2 c =
 
 pub rise-and-set-spec : {M : Type 1} → statement M
 rise-and-set-spec =
-    tie.close (tie.spec day-verdict-requires enum-told table-requires slice-aggregate-work work-requires enum-known-refusal returns returns-2)
+    tie.close (tie.spec day-verdict-requires enum-told table-requires work-requires enum-known-refusal returns returns-2)
