@@ -7,7 +7,7 @@ use std::process::ExitCode;
 const LIST: &str = "docs/REFUSALS.md";
 const HEADER: &str = "include/raddlehue.h";
 const CRATE: &str = "bindings/rust/src/refusal.rs";
-const NUMBERS: &str = "crates/numbers/specs/Refusal.antt";
+const NUMBERS: &str = "crates/calendar/specs/Refusal.antt";
 const BATCH: &str = "crates/sky/specs/Batch.antt";
 const CODES: &str = "crates/capi/specs/Codes.antt";
 

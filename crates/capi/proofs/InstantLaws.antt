@@ -7,7 +7,7 @@ use mir.Syntax.{w64}
 use mir.Val.{SFits, ofZ, toZ}
 use borrow.Author.Tests.{leb-true}
 use Rattle.numbers.proofs.Machine.{any}
-use Rattle.numbers.proofs.RefusalLaws.{passes}
+use Rattle.calendar.proofs.RefusalLaws.{passes}
 use Rattle.sum_rules.specs.Instant.{furthest}
 use Rattle.capi.specs.Answers.{written-one}
 use Rattle.capi.specs.Instants.{reach-refusal}

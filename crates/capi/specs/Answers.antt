@@ -6,7 +6,7 @@ use lib.Dec.{eqb}
 use lib.Ieee.{Float}
 use lib.IntN.{pos, ℤ}
 use lib.ListN.{length}
-use Rattle.numbers.specs.Refusal.{first}
+use Rattle.calendar.specs.Refusal.{first}
 use Rattle.sum_rules.specs.declared.instant.Instant.{Instant}
 use Rattle.sky.specs.Air.{air-refusals}
 use Rattle.sky.specs.Answer.{Answer, judged, nowhere, place, shown-place}

@@ -6,7 +6,7 @@ use lib.Ieee.{Float}
 use lib.IntN.{pos, ℤ}
 use Rattle.number_rules.specs.Angle.{quarter-turn}
 use Rattle.sum_rules.specs.Instant.{minus}
-use Rattle.numbers.specs.Refusal.{_else_, _unless_}
+use Rattle.calendar.specs.Refusal.{_else_, _unless_}
 use Rattle.numbers.specs.Whole.{between}
 use Rattle.sky.specs.declared.air.Air.{Air}
 use Rattle.sky.specs.declared.air.Air.the-variants.{Measured, None, Standard}

@@ -3,7 +3,7 @@ use mathlib.Core.List.{List, [], _∷_}
 use Prim.Native.Nat.{ℕ}
 use lib.Dec.{leb}
 use lib.IntN.{ℤ, pos, natAbs}
-use Rattle.numbers.specs.Refusal.{_unless_}
+use Rattle.calendar.specs.Refusal.{_unless_}
 use Rattle.sum_rules.specs.Instant.{furthest}
 use Rattle.sum_rules.specs.Moon.{longitude, latitude, metres}
 use Rattle.sum_rules.specs.Nutation.{Δψ, Δε, obliquity}

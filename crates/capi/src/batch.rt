@@ -4,7 +4,7 @@ use super::codes::body_refusal;
 use super::given::point_of;
 use super::given::start_of;
 use super::lent::put_counts;
-use numbers::refusal::number_of;
+use calendar::refusal::number_of;
 use sky::batch::Batch;
 use sky::batch::places_at;
 ghost use mathlib.Core.Path.{_≡_};

@@ -1,10 +1,10 @@
 // The body and the air of a request, which C gives by a code. An unknown code is read as the last one, and refused before that matters.
-use numbers::refusal::Verdict;
-use numbers::refusal::number_of;
+use calendar::refusal::Verdict;
+use calendar::refusal::number_of;
 use sky::air::Air;
 use sky_vectors::geocentric::Body;
 ghost use mathlib.Core.Path.{_≡_};
-ghost use Rattle.numbers.specs.Refusal.{_else_, verdict-number};
+ghost use Rattle.calendar.specs.Refusal.{_else_, verdict-number};
 ghost use Rattle.capi.specs.Codes.{air-of, body-of, body-refusal, code-refusal, kind-refusal};
 
 // The refusals outside 01's numbers.

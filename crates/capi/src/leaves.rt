@@ -1,6 +1,6 @@
 // Day counts, sines, arctangents and roots.
-use numbers::calendar::DayCount;
-use numbers::refusal::number_of;
+use calendar::day_count::DayCount;
+use calendar::refusal::number_of;
 ghost use mathlib.Core.Path.{_≡_};
 ghost use lib.IntN.{pos};
 ghost use Rattle.number_rules.specs.Calendar.{day-count};
@@ -15,7 +15,7 @@ pub extern "C" fn raddlehue_day_count(year: i64, month: i64, day: i64, days: &mu
     ensures { λ r. ⌜ r ≡ day-count year month day .refusal ⌝ }
     ensures { λ _. ⌜ now (days .exit) ≡ written-one (day-count year month day .refusal) (day-count year month day .days) (now (days .entry)) ⌝ }
 {
-    match numbers::calendar::day_count(year, month, day) {
+    match calendar::day_count::day_count(year, month, day) {
         DayCount::Days(count) => {
             *days = count;
             0

@@ -1,5 +1,5 @@
 // The middle of two azimuths.
-use numbers::refusal::number_of;
+use calendar::refusal::number_of;
 use sky::heading::Middle;
 use sky::heading::middle_azimuth;
 ghost use mathlib.Core.Path.{_≡_};

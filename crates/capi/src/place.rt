@@ -6,7 +6,7 @@ use super::given::point_of;
 use super::given::start_of;
 use super::lent::put_doubles;
 use super::lent::put_pair;
-use numbers::refusal::number_of;
+use calendar::refusal::number_of;
 use sky::answer::PlaceAnswer;
 use sky::answer::ShownAnswer;
 use sky::answer::shown_place;

@@ -2,7 +2,7 @@
 use super::report::compared;
 use super::report::named;
 use super::report::write;
-use numbers::refusal::number_of;
+use calendar::refusal::number_of;
 use sky::air::Air;
 use sky::answer::PlaceAnswer;
 use sky::answer::ShownAnswer;

@@ -17,7 +17,7 @@ use sum_rules::instant::SECOND;
 use sums::moon::arguments;
 use sums::moon::moon_at;
 ghost use mathlib.Core.Path.{_≡_};
-ghost use Rattle.numbers.specs.Refusal.{first};
+ghost use Rattle.calendar.specs.Refusal.{first};
 ghost use Rattle.sky.specs.Request.{start-refusals, point-refusals};
 
 const DELTA: i64 = (664 * SECOND / 10) as i64;

@@ -19,7 +19,7 @@ use sums::instant::powers_at;
 use sums::nutation::Nutation;
 use sums::nutation::nutation_at;
 ghost use mathlib.Core.Path.{_≡_};
-ghost use Rattle.numbers.specs.Refusal.{first};
+ghost use Rattle.calendar.specs.Refusal.{first};
 ghost use Rattle.sky.specs.Request.{instant, start-refusals, point-refusals};
 ghost use Rattle.sky_vectors.specs.Geocentric.{geocentric};
 ghost use Rattle.sky_vectors.specs.Orientation.{orientation};

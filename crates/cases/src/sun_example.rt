@@ -20,7 +20,7 @@ use sums::nutation::Nutation;
 use sums::sun::longitude_degrees;
 use sums::sun::sun_at;
 ghost use mathlib.Core.Path.{_≡_};
-ghost use Rattle.numbers.specs.Refusal.{first};
+ghost use Rattle.calendar.specs.Refusal.{first};
 ghost use Rattle.sky.specs.Request.{start-refusals, point-refusals};
 
 const DELTA: i64 = (67 * SECOND) as i64;

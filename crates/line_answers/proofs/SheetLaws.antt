@@ -8,8 +8,8 @@ use lib.Dec.{T}
 use lib.IntN.{pos, ℤ}
 use lib.ListN.{length, replicate}
 use Rattle.sum_rules.specs.Table.{column}
-use Rattle.numbers.proofs.RefusalLaws.{never-none, number-tells, one-answer}
-use Rattle.numbers.specs.Refusal.{OneAnswer}
+use Rattle.calendar.proofs.RefusalLaws.{never-none, number-tells, one-answer}
+use Rattle.calendar.specs.Refusal.{OneAnswer}
 use Rattle.text.specs.Decimal.{decimal}
 use Rattle.text.specs.Line.{answer, space}
 use Rattle.text.specs.RoundTrip.{printed}

@@ -10,7 +10,7 @@ use Rattle.sum_rules.specs.Table.{column}
 use Rattle.sum_rules.specs.declared.instant.Instant.{Instant}
 use Rattle.text.specs.Line.{sheet-numbers}
 use Rattle.text.specs.RoundTrip.{printed}
-use Rattle.numbers.specs.Refusal.{first, number}
+use Rattle.calendar.specs.Refusal.{first, number}
 use Rattle.sky.specs.Answer.{Answer, judged}
 use Rattle.sky.specs.Request.{instant, start-from, start-refusals}
 use Rattle.sky.specs.declared.request.Start.{Start}

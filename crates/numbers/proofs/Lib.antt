@@ -4,5 +4,3 @@ pub mod AngleLaws
 pub mod RootLaws
 pub mod ArctangentLaws
 pub mod LimbLaws
-pub mod RefusalLaws
-pub mod DayCountLaws

@@ -2,5 +2,3 @@ pub mod Whole
 pub mod Arctangent
 pub mod Limbs
 pub mod Root
-pub mod Refusal
-pub mod DayCount

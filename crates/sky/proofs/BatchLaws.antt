@@ -22,8 +22,8 @@ use Rattle.numbers.proofs.Machine.{not-holds}
 use Rattle.number_rules.specs.Calendar.{day-count, day-number, days-from-2000, days-to-month, days-to-year, leap, month-length, year-length}
 use Rattle.sky.proofs.RequestLaws.{accepted}
 use Rattle.sky.specs.Batch.{BatchAnswer, batch-answer, filled, first-late, is-late, last-moment, later}
-use Rattle.numbers.specs.Refusal.{OneAnswer, first}
-use Rattle.numbers.proofs.RefusalLaws.{never-late, never-none, number-tells, one-answer}
+use Rattle.calendar.specs.Refusal.{OneAnswer, first}
+use Rattle.calendar.proofs.RefusalLaws.{never-late, never-none, number-tells, one-answer}
 use Rattle.sky.specs.Request.{date, elapsed, instant, start-refusals, utc}
 use Rattle.sky_vectors.specs.SkyRange.{Reachable}
 use Rattle.sky.specs.declared.batch.Batch.{Batch}

@@ -9,7 +9,7 @@ use lib.ListN.{getD, length}
 use borrow.Author.Tests.{eqb-false, eqb-true}
 use Rattle.sum_rules.proofs.Accurate.{moon-near, sun-near}
 use Rattle.sum_rules.specs.declared.instant.Instant.{Instant}
-use Rattle.numbers.specs.Refusal.{first}
+use Rattle.calendar.specs.Refusal.{first}
 use Rattle.sky_vectors.specs.Place.{place-at}
 use Rattle.sky_vectors.specs.SkyRange.{Reachable}
 use Rattle.sky.specs.Air.{air-refusals}

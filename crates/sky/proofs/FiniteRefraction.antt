@@ -18,12 +18,12 @@ use Rattle.sky.specs.Air.{air-refusals, pressure-passes, standard-pressu
 use Rattle.sky.specs.Double.{IsFinite, _+d_, _*d_, _/d_, double, nearest}
 use Rattle.sky_vectors.specs.Product.{sine-cosine}
 use Rattle.sky.specs.Refraction.{FiniteWhereAccepted, IsRefracted, formula, measured-refraction, raised, refraction-in}
-use Rattle.numbers.specs.Refusal.{_unless_, first}
+use Rattle.calendar.specs.Refusal.{_unless_, first}
 use Rattle.sky.specs.declared.air.Air.{Air}
 use Rattle.sky.specs.declared.air.Air.the-variants.{Measured, None, Standard}
 use Rattle.sky.proofs.DoubleLaws.{AtLeast1, AtMost, bounded, bounded-finite, product-least, product-most, quotient-most, rounds-least, rounds-most, whole-least, whole-most, within-most}
 use Rattle.sky.proofs.RefractionLaws.{of-refraction, raised-sine}
-use Rattle.numbers.proofs.RefusalLaws.{none, passes}
+use Rattle.calendar.proofs.RefusalLaws.{none, passes}
 
 -- ---- P/1010 and 283/(273+T)
 pressure-most : (P : Float) → pressure-passes P ≡ true → AtMost 1200 (P /d double (pos 1010))

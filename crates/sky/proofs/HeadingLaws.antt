@@ -10,8 +10,8 @@ use lib.Signed.{leZ, ltZ}
 use mir.Facts.{and-yes}
 use borrow.Author.Tests.{eq-eqb, le-ltb, lt-ltb, ne-eqb}
 use Rattle.number_rules.specs.Angle.{full-turn, half-turn}
-use Rattle.numbers.specs.Refusal.{OneAnswer}
-use Rattle.numbers.proofs.RefusalLaws.{never-none, number-tells, one-answer}
+use Rattle.calendar.specs.Refusal.{OneAnswer}
+use Rattle.calendar.proofs.RefusalLaws.{never-none, number-tells, one-answer}
 use Rattle.sky.specs.Heading.{MiddleAnswer, clockwise, half-way, is-reduced, middle, middle-answer, middle-of}
 use Rattle.sky.specs.declared.heading.Middle.{Middle}
 use Rattle.sky.specs.declared.heading.Middle.the-variants.{Azimuth, Refused}

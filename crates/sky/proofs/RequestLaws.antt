@@ -16,8 +16,8 @@ use mir.Val.{SFits, ofZ, toZ}
 use mir.ValLaws.{toZ-ofZ}
 use Rattle.arithmetic.proofs.Difference.{#_, _⊞_, _⊠_, by-le, by-lt, to-le, to-lt, ⊟_, ⟨_⟩}
 use Rattle.number_rules.proofs.CalendarLaws.{accepted-days, day-after-last-is, first-day-is}
-use Rattle.numbers.proofs.RefusalLaws.{alone, first-append, none, none-append, passes}
-use Rattle.numbers.specs.Refusal.{_else_, _unless_, first}
+use Rattle.calendar.proofs.RefusalLaws.{alone, first-append, none, none-append, passes}
+use Rattle.calendar.specs.Refusal.{_else_, _unless_, first}
 use Rattle.numbers.specs.Whole.{between}
 use Rattle.sky.specs.Request.{date, delta-limit, elapsed, instant, is-clock, point-refusals, start-refusals, ut1-limit}
 use Rattle.sky_vectors.specs.SkyRange.{OnEarth, Reachable, highest-height, latitude-limit, longitude-limit, lowest-height}

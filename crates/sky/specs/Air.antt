@@ -6,7 +6,7 @@ use lib.IntN.{negsuc, pos}
 use lib.Ieee as Ieee
 use lib.Ieee.{Float}
 use Rattle.sky.specs.Double.{double}
-use Rattle.numbers.specs.Refusal.{_unless_}
+use Rattle.calendar.specs.Refusal.{_unless_}
 use Rattle.sky.specs.declared.air.Air.{Air}
 use Rattle.sky.specs.declared.air.Air.the-variants.{Measured, None, Standard}
 

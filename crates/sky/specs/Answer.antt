@@ -6,7 +6,7 @@ use lib.Dec.{eqb}
 use lib.IntN.{pos}
 use Rattle.sky.specs.Air.{air-refusals}
 use Rattle.sky_vectors.specs.Place.{place-at}
-use Rattle.numbers.specs.Refusal.{first, number}
+use Rattle.calendar.specs.Refusal.{first, number}
 use Rattle.sky.specs.Request.{instant, point-refusals, start-refusals}
 use Rattle.sky.specs.Shown.{nothing-shown, shown}
 use Rattle.sky.specs.declared.air.Air.{Air}

@@ -8,7 +8,7 @@ use lib.ListN.{drop, getD, length}
 use lib.Signed.{ltZ}
 use Rattle.sky_vectors.specs.Place.{place-at, place-from}
 use Rattle.sky_vectors.specs.SkyRange.{Reachable}
-use Rattle.numbers.specs.Refusal.{_unless_, first, number}
+use Rattle.calendar.specs.Refusal.{_unless_, first, number}
 use Rattle.sky.specs.Request.{moved, point-refusals, start-refusals, utc}
 use Rattle.sky.specs.declared.batch.Batch.{Batch}
 use Rattle.sky.specs.declared.batch.Batch.the-variants.{Done, Late, Refused}

@@ -5,7 +5,7 @@ use lib.Dec.{eqb, ltb}
 use lib.IntN.{ℤ, pos, natAbs}
 use lib.Signed.{leZ, ltZ}
 use Rattle.number_rules.specs.Angle.{full-turn, half-turn}
-use Rattle.numbers.specs.Refusal.{number}
+use Rattle.calendar.specs.Refusal.{number}
 use Rattle.sky.specs.declared.heading.Middle.{Middle}
 use Rattle.sky.specs.declared.heading.Middle.the-variants.{Azimuth, Refused}
 

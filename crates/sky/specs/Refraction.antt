@@ -11,7 +11,7 @@ use Rattle.numbers.specs.declared.sine.SineCosine.{SineCosine}
 use Rattle.sky.specs.Air.{air-refusals, standard-pressure, standard-temperature, temperature-passes}
 use Rattle.sky.specs.Double.{IsFinite, IsZero, _+d_, _*d_, _/d_, double, nearest, zero-degrees}
 use Rattle.sky_vectors.specs.Product.{sine-cosine}
-use Rattle.numbers.specs.Refusal.{first}
+use Rattle.calendar.specs.Refusal.{first}
 use Rattle.sky.specs.declared.air.Air.{Air}
 use Rattle.sky.specs.declared.air.Air.the-variants.{Measured, None, Standard}
 

@@ -4,7 +4,7 @@ use mathlib.Core.List.{List, [], _∷_, _++_}
 use Prim.Native.Nat.{_*_, _-_, _/_, ℕ}
 use lib.IntN.{_*ℤ_, _+ℤ_, pos, ℤ}
 use Rattle.number_rules.specs.Calendar.{DayAnswer, day-count}
-use Rattle.numbers.specs.Refusal.{_unless_}
+use Rattle.calendar.specs.Refusal.{_unless_}
 use Rattle.numbers.specs.Whole.{between}
 use Rattle.sum_rules.specs.Instant.{day, minus, second, terrestrial-time, universal-time}
 use Rattle.sum_rules.specs.Table.{column}

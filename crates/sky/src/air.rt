@@ -1,10 +1,10 @@
 // The air of a request, and checks 10 and 11 on it.
-use numbers::refusal::Refusal;
-use numbers::refusal::Verdict;
-use numbers::refusal::or_else;
-use numbers::refusal::unless;
+use calendar::refusal::Refusal;
+use calendar::refusal::Verdict;
+use calendar::refusal::or_else;
+use calendar::refusal::unless;
 ghost use mathlib.Core.Path.{_≡_};
-ghost use Rattle.numbers.specs.Refusal.{first, verdict-number};
+ghost use Rattle.calendar.specs.Refusal.{first, verdict-number};
 ghost use Rattle.sky.specs.Air.{between-doubles, air-refusals};
 
 // Measured with a pressure in mbar and a temperature in °C.

@@ -1,10 +1,10 @@
 // The middle of two azimuths, the short way round.
+use calendar::refusal::Refusal;
 use numbers::angle::Angle;
-use numbers::refusal::Refusal;
 ghost use mathlib.Core.Path.{_≡_};
 ghost use Prim.Native.Nat.{_<_};
 ghost use Rattle.number_rules.specs.Angle.{full-turn};
-ghost use Rattle.numbers.specs.Refusal.{OneAnswer};
+ghost use Rattle.calendar.specs.Refusal.{OneAnswer};
 ghost use Rattle.sky.specs.Heading.{is-reduced, clockwise, half-way, middle, middle-answer};
 
 pub enum Middle {

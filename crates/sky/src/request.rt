@@ -1,10 +1,10 @@
 // A start, the checks 1 to 9 on a request, and the start's instant.
-use numbers::calendar::DayCount;
-use numbers::calendar::day_count;
-use numbers::refusal::Refusal;
-use numbers::refusal::Verdict;
-use numbers::refusal::or_else;
-use numbers::refusal::unless;
+use calendar::day_count::DayCount;
+use calendar::day_count::day_count;
+use calendar::refusal::Refusal;
+use calendar::refusal::Verdict;
+use calendar::refusal::or_else;
+use calendar::refusal::unless;
 use numbers::whole::is_between;
 use sky_vectors::station::HIGHEST_HEIGHT;
 use sky_vectors::station::LATITUDE_LIMIT;
@@ -17,8 +17,8 @@ use sum_rules::instant::SECOND;
 use sums::instant::instant_at;
 ghost use mathlib.Core.Path.{_≡_};
 ghost use mathlib.Core.Bool.{true};
-ghost use Rattle.numbers.specs.DayCount.{count-answer};
-ghost use Rattle.numbers.specs.Refusal.{OneAnswer, first, verdict-number};
+ghost use Rattle.calendar.specs.DayCount.{count-answer};
+ghost use Rattle.calendar.specs.Refusal.{OneAnswer, first, verdict-number};
 ghost use Rattle.sky_vectors.specs.SkyRange.{Reachable};
 ghost use Rattle.sky.specs.Request.{date, is-clock, date-refusals, clock-refusals, scale-refusals, start-refusals, point-refusals, elapsed, utc, instant, moved};
 

@@ -5,7 +5,7 @@ use mathlib.Core.Path.{_∙_, _≡_, ap, sym}
 use lib.IntN.{ℤ}
 use lib.ListN.{length}
 use borrow.Author.Needs.{needs}
-use Rattle.numbers.proofs.RefusalLaws.{never-late, never-none}
+use Rattle.calendar.proofs.RefusalLaws.{never-late, never-none}
 use Rattle.sky.specs.Batch.{BatchAnswer, azimuth-at, batch, batch-answer, elevation-at, left-in}
 use Rattle.sky.specs.Request.{instant, start-from}
 use Rattle.capi.specs.Answers.{azimuths-left, coded-batch, elevations-left, told-of-batch}

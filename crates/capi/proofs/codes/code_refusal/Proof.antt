@@ -1,7 +1,7 @@
 -- `capi::codes::code_refusal` meets its contract.
 use mathlib.Core.Path.{_∙_}
 use borrow.Author.Needs.{needs}
-use Rattle.numbers.specs.Refusal.{_else_}
+use Rattle.calendar.specs.Refusal.{_else_}
 use Rattle.capi.proofs.codes.code_refusal.Statement.{statement}
 use Rattle.capi.proofs.codes.code_refusal.Tie as tie
 

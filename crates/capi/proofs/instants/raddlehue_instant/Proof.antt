@@ -4,7 +4,7 @@ use mathlib.Core.Path.{_∙_, _≡_, ap, refl, sym}
 use Prim.Native.Nat.{ℕ}
 use lib.IntN.{pos}
 use borrow.Author.Needs.{needs}
-use Rattle.numbers.specs.Refusal.{first}
+use Rattle.calendar.specs.Refusal.{first}
 use Rattle.numbers.proofs.Machine.{passed}
 use Rattle.sum_rules.specs.declared.instant.Instant.{Instant}
 use Rattle.sky.specs.Answer.{Answer}

@@ -8,7 +8,7 @@ use borrow.Author.Needs.{needs}
 use Rattle.number_rules.specs.Angle.{quarter-turn}
 use Rattle.numbers.specs.Whole.{between}
 use Rattle.numbers.proofs.Machine.{any, handed}
-use Rattle.numbers.proofs.RefusalLaws.{none, passes}
+use Rattle.calendar.proofs.RefusalLaws.{none, passes}
 use Rattle.sum_rules.specs.Instant.{minus}
 use Rattle.sky.specs.Air.{air-refusals}
 use Rattle.sky.specs.Refraction.{refraction}

@@ -1,7 +1,7 @@
 -- `capi::refraction::refraction_refusal` meets its contract.
 use mathlib.Core.Path.{_∙_, ap}
 use borrow.Author.Needs.{needs}
-use Rattle.numbers.specs.Refusal.{_else_, first}
+use Rattle.calendar.specs.Refusal.{_else_, first}
 use Rattle.numbers.proofs.Machine.{any}
 use Rattle.sky.specs.Air.{air-refusals}
 use Rattle.sky.specs.declared.air.Air.{Air}

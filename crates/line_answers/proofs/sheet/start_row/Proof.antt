@@ -1,7 +1,7 @@
 -- `sheet::start_row` meets its contract.
 use mathlib.Core.Path.{_∙_, _≡_, ap, subst⁻¹, sym}
-use Rattle.numbers.specs.Refusal.{first, verdict-number}
-use Rattle.numbers.proofs.RefusalLaws.{never-none}
+use Rattle.calendar.specs.Refusal.{first, verdict-number}
+use Rattle.calendar.proofs.RefusalLaws.{never-none}
 use Rattle.sky.proofs.AnswerLaws.{judged-value, judged-zeros}
 use Rattle.sky.proofs.RequestLaws.{start-reachable}
 use Rattle.sky.specs.Request.{instant, start-refusals}

@@ -3,8 +3,8 @@ use mathlib.Core.List.{[], _∷_}
 use mathlib.Core.Path.{_∙_, _≡_, ap, refl}
 use mathlib.Core.Bool.{Bool}
 use lib.Ieee as Ieee
-use Rattle.numbers.proofs.RefusalLaws.{alone, joined}
-use Rattle.numbers.specs.Refusal.{_unless_, first}
+use Rattle.calendar.proofs.RefusalLaws.{alone, joined}
+use Rattle.calendar.specs.Refusal.{_unless_, first}
 use Rattle.sky.specs.Air.{air-refusals, pressure-passes, temperature-passes}
 use borrow.Author.Needs.{needs}
 use Rattle.sky.proofs.air.air_verdict.Statement.{statement}

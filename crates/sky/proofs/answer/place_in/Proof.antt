@@ -1,7 +1,7 @@
 -- `sky::answer::place_in` meets its contract.
 use mathlib.Core.Path.{_∙_, _≡_, ap, subst⁻¹, sym}
-use Rattle.numbers.specs.Refusal.{first, number, verdict-number}
-use Rattle.numbers.proofs.RefusalLaws.{never-none}
+use Rattle.calendar.specs.Refusal.{first, number, verdict-number}
+use Rattle.calendar.proofs.RefusalLaws.{never-none}
 use Rattle.sky_vectors.specs.Place.{place-at}
 use Rattle.sky_vectors.specs.SkyRange.{Reachable}
 use Rattle.sky.specs.Air.{air-refusals}

@@ -1,6 +1,6 @@
 -- `sky::answer::request_verdict` meets its contract.
 use mathlib.Core.List.{_++_}
-use Rattle.numbers.proofs.RefusalLaws.{joined}
+use Rattle.calendar.proofs.RefusalLaws.{joined}
 use Rattle.sky.specs.Air.{air-refusals}
 use Rattle.sky.specs.Request.{point-refusals, start-refusals}
 use borrow.Author.Needs.{needs}

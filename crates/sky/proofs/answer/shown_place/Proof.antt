@@ -1,7 +1,7 @@
 -- `sky::answer::shown_place` meets its contract.
 use mathlib.Core.Path.{_∙_, _≡_, ap, subst⁻¹, sym}
-use Rattle.numbers.specs.Refusal.{first, number}
-use Rattle.numbers.proofs.RefusalLaws.{never-none}
+use Rattle.calendar.specs.Refusal.{first, number}
+use Rattle.calendar.proofs.RefusalLaws.{never-none}
 use Rattle.sky_vectors.proofs.PlaceLaws.{place-at-in-turns}
 use Rattle.sky_vectors.specs.Place.{InTurns, place-at}
 use Rattle.sky_vectors.specs.declared.place.Place.{Place}

@@ -15,9 +15,9 @@ use Rattle.sky.proofs.BatchLaws.{all-in-time, late-most, one-batch, sam
 use Rattle.sky.proofs.Demand3.{every-sample-near}
 use Rattle.sky.proofs.RequestLaws.{on-earth, point-passes, rest-passes, start-passes}
 use Rattle.sky.specs.Batch.{AllReachable, azimuth-from, batch, elevation-from, filled, first-late, room-refusals}
-use Rattle.numbers.proofs.RefusalLaws as RefusalLaws
-use Rattle.numbers.proofs.RefusalLaws.{alone, first-one, joined, never-none}
-use Rattle.numbers.specs.Refusal.{_unless_, first, number, verdict-number}
+use Rattle.calendar.proofs.RefusalLaws as RefusalLaws
+use Rattle.calendar.proofs.RefusalLaws.{alone, first-one, joined, never-none}
+use Rattle.calendar.specs.Refusal.{_unless_, first, number, verdict-number}
 use Rattle.sky.specs.Request.{instant, point-refusals, start-refusals, utc}
 use Rattle.sky_vectors.proofs.SkySizes.{runner-stands}
 use Rattle.sky_vectors.specs.Place.{place-at}

@@ -1,8 +1,8 @@
 -- `sky::request::clock_verdict` meets its contract.
 use mathlib.Core.Bool.{Bool}
 use mathlib.Core.Path.{_∙_, ap}
-use Rattle.numbers.proofs.RefusalLaws.{alone}
-use Rattle.numbers.specs.Refusal.{_unless_}
+use Rattle.calendar.proofs.RefusalLaws.{alone}
+use Rattle.calendar.specs.Refusal.{_unless_}
 use borrow.Author.Needs.{needs}
 use Rattle.sky.proofs.request.clock_verdict.Statement.{statement}
 use Rattle.sky.proofs.request.clock_verdict.Tie as tie

@@ -5,8 +5,8 @@ use mir.Syntax.{w64}
 use mir.Val.{SFits}
 use Rattle.numbers.proofs.Machine.{any}
 use Rattle.number_rules.specs.Calendar.{DayAnswer, day-count}
-use Rattle.numbers.specs.DayCount.{count-answer}
-use Rattle.numbers.specs.Refusal.{OneAnswer}
+use Rattle.calendar.specs.DayCount.{count-answer}
+use Rattle.calendar.specs.Refusal.{OneAnswer}
 use Rattle.sky.specs.declared.request.Start.{Start}
 use Rattle.sky.proofs.request.date_of.Statement.{statement}
 use Rattle.sky.proofs.request.date_of.Tie as tie

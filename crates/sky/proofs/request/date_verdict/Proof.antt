@@ -1,8 +1,8 @@
 -- `sky::request::date_verdict` meets its contract.
 use mathlib.Core.Path.{refl}
 use borrow.Author.Needs.{needs}
-use Rattle.numbers.proofs.RefusalLaws.{alone}
-use Rattle.numbers.specs.Refusal.{first}
+use Rattle.calendar.proofs.RefusalLaws.{alone}
+use Rattle.calendar.specs.Refusal.{first}
 use Rattle.sky.proofs.request.date_verdict.Statement.{statement}
 use Rattle.sky.proofs.request.date_verdict.Tie as tie
 

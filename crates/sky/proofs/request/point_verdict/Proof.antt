@@ -4,8 +4,8 @@ use Prim.Native.Nat.{ℕ}
 use lib.IntN.{pos, ℤ}
 use mir.Syntax.{w64}
 use mir.Val.{SFits}
-use Rattle.numbers.proofs.RefusalLaws.{joined}
-use Rattle.numbers.specs.Refusal.{_unless_}
+use Rattle.calendar.proofs.RefusalLaws.{joined}
+use Rattle.calendar.specs.Refusal.{_unless_}
 use Rattle.numbers.specs.Whole.{between}
 use Rattle.sum_rules.specs.Instant.{minus}
 use Rattle.sky.proofs.RequestLaws.{judged-between}

@@ -1,8 +1,8 @@
 -- `sky::request::scale_verdict` meets its contract.
 use mathlib.Core.List.{[], _∷_}
 use lib.IntN.{pos}
-use Rattle.numbers.proofs.RefusalLaws.{joined}
-use Rattle.numbers.specs.Refusal.{_unless_}
+use Rattle.calendar.proofs.RefusalLaws.{joined}
+use Rattle.calendar.specs.Refusal.{_unless_}
 use Rattle.numbers.specs.Whole.{between}
 use Rattle.sum_rules.specs.Instant.{minus}
 use Rattle.sky.specs.Request.{delta-limit, ut1-limit}

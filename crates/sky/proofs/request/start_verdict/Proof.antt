@@ -5,8 +5,8 @@ use mir.Syntax.{w64}
 use mir.Val.{SFits}
 use mir.ValLaws.{toZ-ofZ}
 use Rattle.number_rules.specs.Calendar.{DayAnswer}
-use Rattle.numbers.proofs.RefusalLaws.{joined}
-use Rattle.numbers.specs.Refusal.{first}
+use Rattle.calendar.proofs.RefusalLaws.{joined}
+use Rattle.calendar.specs.Refusal.{first}
 use Rattle.sky.specs.Request.{clock-refusals, date, date-refusals, scale-refusals}
 use Rattle.sky.specs.declared.request.Start.{Start}
 use borrow.Author.Needs.{needs}

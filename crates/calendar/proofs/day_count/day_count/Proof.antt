@@ -1,4 +1,4 @@
--- `numbers::calendar::day_count` meets its contract. Each test gives a fact of ℤ; the accepted parameters are natural numbers from there on.
+-- `calendar::day_count::day_count` meets its contract. Each test gives a fact of ℤ; the accepted parameters are natural numbers from there on.
 use mathlib.Core.Path.{_∙_, _≡_, ap, sym}
 use Prim.Native.Nat.{_+_, _<_, _≤_, ℕ}
 use native.Mathlib.Omega.{arith}
@@ -9,10 +9,10 @@ use mir.Val.{ofZ, toZ}
 use Rattle.number_rules.specs.Calendar.{day-count, day-number, days-from-2000, days-to-month, days-to-year, month-length}
 use Rattle.number_rules.proofs.CalendarLaws.{day-high, day-low, epoch, length-most, month-most, year-most}
 use Rattle.arithmetic.proofs.Sizes.{at-least, at-most}
-use Rattle.numbers.proofs.DayCountLaws.{one-count}
+use Rattle.calendar.proofs.DayCountLaws.{one-count}
 use Rattle.numbers.proofs.Machine.{Mirror, _⊖_, any, cast-up, fits, from-nat, is-le, kept, less, lit, nat-fits, not-le, not-less}
-use Rattle.numbers.proofs.calendar.day_count.Statement.{statement}
-use Rattle.numbers.proofs.calendar.day_count.Tie as tie
+use Rattle.calendar.proofs.day_count.day_count.Statement.{statement}
+use Rattle.calendar.proofs.day_count.day_count.Tie as tie
 
 -- ---- what the tests tell
 abbrev year : tie.Start → Mirror

@@ -1,11 +1,11 @@
 -- A day count is told from any other by its numbers.
 use mathlib.Core.Path.{_≡_, ap, sym}
 use Rattle.number_rules.specs.Calendar.{DayAnswer}
-use Rattle.numbers.specs.DayCount.{count-answer}
-use Rattle.numbers.specs.Refusal.{OneAnswer}
-use Rattle.numbers.specs.declared.calendar.DayCount.{DayCount}
-use Rattle.numbers.specs.declared.calendar.DayCount.the-variants.{Days, Refused}
-use Rattle.numbers.proofs.RefusalLaws.{never-none, number-tells, one-answer}
+use Rattle.calendar.specs.DayCount.{count-answer}
+use Rattle.calendar.specs.Refusal.{OneAnswer}
+use Rattle.calendar.specs.declared.day_count.DayCount.{DayCount}
+use Rattle.calendar.specs.declared.day_count.DayCount.the-variants.{Days, Refused}
+use Rattle.calendar.proofs.RefusalLaws.{never-none, number-tells, one-answer}
 
 count-tells : (x y : DayCount) → count-answer x ≡ count-answer y → x ≡ y
 count-tells (Days d) (Days e) same = ap (λ (a : DayAnswer). Days (a .days)) same

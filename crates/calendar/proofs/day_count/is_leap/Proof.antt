@@ -1,8 +1,8 @@
--- `numbers::calendar::is_leap` meets its contract.
+-- `calendar::day_count::is_leap` meets its contract.
 use borrow.Author.Tests.{eq-eqb, ne-eqb}
 use Rattle.number_rules.specs.Calendar.{leap}
-use Rattle.numbers.proofs.calendar.is_leap.Statement.{statement}
-use Rattle.numbers.proofs.calendar.is_leap.Tie as tie
+use Rattle.calendar.proofs.day_count.is_leap.Statement.{statement}
+use Rattle.calendar.proofs.day_count.is_leap.Tie as tie
 
 returns : tie.Need-returns
 unfolding leap

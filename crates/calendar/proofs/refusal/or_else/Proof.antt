@@ -1,11 +1,11 @@
--- `numbers::refusal::or_else` meets its contract: a refusal's number is not 0.
+-- `calendar::refusal::or_else` meets its contract: a refusal's number is not 0.
 use mathlib.Core.Path.{refl}
 use borrow.Author.Needs.{needs}
 use borrow.Author.Tests.{ne-eqb}
-use Rattle.numbers.specs.Refusal.{number}
-use Rattle.numbers.proofs.RefusalLaws.{never-none}
-use Rattle.numbers.proofs.refusal.or_else.Statement.{statement}
-use Rattle.numbers.proofs.refusal.or_else.Tie as tie
+use Rattle.calendar.specs.Refusal.{number}
+use Rattle.calendar.proofs.RefusalLaws.{never-none}
+use Rattle.calendar.proofs.refusal.or_else.Statement.{statement}
+use Rattle.calendar.proofs.refusal.or_else.Tie as tie
 
 enum-told : tie.Need-enum-told
 enum-told c = search needs

@@ -4,10 +4,10 @@ use mathlib.Core.List.{List, [], _∷_}
 use mathlib.Core.Path.{_≡_}
 use Prim.Native.Nat.{ℕ}
 use lib.Dec.{eqb}
-use Rattle.numbers.specs.declared.refusal.Refusal.{Refusal}
-use Rattle.numbers.specs.declared.refusal.Refusal.the-variants as Of
-use Rattle.numbers.specs.declared.refusal.Verdict.{Verdict}
-use Rattle.numbers.specs.declared.refusal.Verdict.the-variants as Says
+use Rattle.calendar.specs.declared.refusal.Refusal.{Refusal}
+use Rattle.calendar.specs.declared.refusal.Refusal.the-variants as Of
+use Rattle.calendar.specs.declared.refusal.Verdict.{Verdict}
+use Rattle.calendar.specs.declared.refusal.Verdict.the-variants as Says
 
 -- the paper's number for each case; 13 carries an index, and is a case of the batch's answer
 abbrev pub number : Refusal → ℕ

@@ -1,10 +1,10 @@
--- `numbers::calendar::days_to_month` meets its contract.
+-- `calendar::day_count::days_to_month` meets its contract.
 use mathlib.Core.Path.{_∙_, sym}
 use borrow.Author.Needs.{needs}
 use borrow.Author.Tests.{le-leb, lt-leb}
 use Rattle.number_rules.proofs.CalendarLaws.{days-to-month-by}
-use Rattle.numbers.proofs.calendar.days_to_month.Statement.{statement}
-use Rattle.numbers.proofs.calendar.days_to_month.Tie as tie
+use Rattle.calendar.proofs.day_count.days_to_month.Statement.{statement}
+use Rattle.calendar.proofs.day_count.days_to_month.Tie as tie
 
 mul-n : tie.Need-mul-n
 mul-n c = search needs

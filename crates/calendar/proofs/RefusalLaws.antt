@@ -6,11 +6,11 @@ use Prim.Native.Nat.{_<_, suc, ℕ}
 use native.Mathlib.Omega.{arith}
 use lib.Dec.{eqb, lit<}
 use borrow.Author.Tests.{eqb-false, eqb-true}
-use Rattle.numbers.specs.Refusal.{OneAnswer, VerdictsTold, _else_, _unless_, first, number}
-use Rattle.numbers.specs.declared.refusal.Refusal.{Refusal}
-use Rattle.numbers.specs.declared.refusal.Refusal.the-variants as Of
-use Rattle.numbers.specs.declared.refusal.Verdict.{Verdict}
-use Rattle.numbers.specs.declared.refusal.Verdict.the-variants as Says
+use Rattle.calendar.specs.Refusal.{OneAnswer, VerdictsTold, _else_, _unless_, first, number}
+use Rattle.calendar.specs.declared.refusal.Refusal.{Refusal}
+use Rattle.calendar.specs.declared.refusal.Refusal.the-variants as Of
+use Rattle.calendar.specs.declared.refusal.Verdict.{Verdict}
+use Rattle.calendar.specs.declared.refusal.Verdict.the-variants as Says
 
 -- what is told apart by its numbers is one answer
 pub one-answer : {A B : Type 0} {numbers : A → B} → ((x y : A) → numbers x ≡ numbers y → x ≡ y) → {answer : A} {rule : B} → numbers answer ≡ rule → OneAnswer numbers rule answer

@@ -1,10 +1,10 @@
--- `numbers::calendar::month_length` meets its contract.
+-- `calendar::day_count::month_length` meets its contract.
 use mathlib.Core.Path.{_∙_, sym}
 use borrow.Author.Needs.{needs}
 use borrow.Author.Tests.{eq-eqb, ne-eqb}
 use Rattle.number_rules.proofs.CalendarLaws.{month-length-by}
-use Rattle.numbers.proofs.calendar.month_length.Statement.{statement}
-use Rattle.numbers.proofs.calendar.month_length.Tie as tie
+use Rattle.calendar.proofs.day_count.month_length.Statement.{statement}
+use Rattle.calendar.proofs.day_count.month_length.Tie as tie
 
 is-leap-requires : tie.Need-is-leap-requires
 is-leap-requires c κs = search needs

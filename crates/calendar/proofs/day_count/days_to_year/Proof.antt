@@ -1,9 +1,9 @@
--- `numbers::calendar::days_to_year` meets its contract.
+-- `calendar::day_count::days_to_year` meets its contract.
 use mathlib.Core.Path.{sym}
 use borrow.Author.Needs.{needs}
 use Rattle.number_rules.proofs.CalendarLaws.{years-by}
-use Rattle.numbers.proofs.calendar.days_to_year.Statement.{statement}
-use Rattle.numbers.proofs.calendar.days_to_year.Tie as tie
+use Rattle.calendar.proofs.day_count.days_to_year.Statement.{statement}
+use Rattle.calendar.proofs.day_count.days_to_year.Tie as tie
 
 mul-result : tie.Need-mul-result
 mul-result c = search needs

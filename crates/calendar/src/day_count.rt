@@ -3,8 +3,8 @@ use super::refusal::Refusal;
 ghost use mathlib.Core.Path.{_≡_};
 ghost use Prim.Native.Nat.{_≤_};
 ghost use Rattle.number_rules.specs.Calendar.{leap, month-length, days-to-year, days-to-month, day-count};
-ghost use Rattle.numbers.specs.DayCount.{count-answer};
-ghost use Rattle.numbers.specs.Refusal.{OneAnswer};
+ghost use Rattle.calendar.specs.DayCount.{count-answer};
+ghost use Rattle.calendar.specs.Refusal.{OneAnswer};
 
 // Days from 2000-01-01, or the first refusal that applies.
 pub enum DayCount {

@@ -1,6 +1,6 @@
 // 01's refusals, a case for each number, so that no other number can be given.
 ghost use mathlib.Core.Path.{_≡_};
-ghost use Rattle.numbers.specs.Refusal.{number, verdict-number, _unless_, _else_};
+ghost use Rattle.calendar.specs.Refusal.{number, verdict-number, _unless_, _else_};
 
 // 13 is not among them: it carries an index, and has a case of its own in a batch's answer.
 pub enum Refusal {
