@@ -5,7 +5,7 @@ ghost use mathlib.Core.Path.{_≡_};
 ghost use lib.IntN.{pos};
 ghost use Rattle.number_rules.specs.Calendar.{day-count};
 ghost use Rattle.number_rules.specs.Sine.{sine, cosine};
-ghost use Rattle.numbers.specs.Arctangent.{arctangent};
+ghost use Rattle.arctangent.specs.Arctangent.{arctangent};
 ghost use Rattle.numbers.specs.Root.{root};
 ghost use Rattle.capi.specs.Answers.{written-one};
 
@@ -43,7 +43,7 @@ pub extern "C" fn raddlehue_cosine(angle: i64) -> i64
 pub extern "C" fn raddlehue_arctangent(y: i64, x: i64) -> i64
     ensures { λ r. ⌜ r ≡ pos (arctangent y x) ⌝ }
 {
-    numbers::arctangent::arctangent(y, x).units as i64
+    arctangent::direction::arctangent(y, x).units as i64
 }
 
 #[no_mangle]

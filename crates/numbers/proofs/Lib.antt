@@ -1,6 +1,5 @@
 pub mod Machine
+pub mod SignLaws
 pub mod WideProduct
 pub mod AngleLaws
 pub mod RootLaws
-pub mod ArctangentLaws
-pub mod LimbLaws

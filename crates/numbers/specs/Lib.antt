@@ -1,4 +1,2 @@
 pub mod Whole
-pub mod Arctangent
-pub mod Limbs
 pub mod Root

@@ -12,9 +12,9 @@ use mir.Val.{Fits, SFits, toZ}
 use mir.ValLaws.{toZ-pos}
 use Rattle.arithmetic.proofs.Sizes.{mul-bound}
 use Rattle.number_rules.specs.Angle.{full-turn}
-use Rattle.numbers.specs.Arctangent.{arctangent}
+use Rattle.arctangent.specs.Arctangent.{arctangent}
 use Rattle.numbers.specs.declared.sine.SineCosine.{SineCosine}
-use Rattle.numbers.proofs.ArctangentLaws.{arctangent-below}
+use Rattle.arctangent.proofs.ArctangentLaws.{arctangent-below}
 use Rattle.numbers.proofs.Machine.{Mirror, nat-fits, told}
 use Rattle.sky_vectors.specs.Horizon.{elevation-of-zeros, slope}
 use Rattle.sky_vectors.specs.SkyRange.{OneAngle, SmallVector}

@@ -1,8 +1,8 @@
 // Up, north and east, and the azimuth and the elevation that they make.
 use super::rotation::rotated;
 use super::vector::Vector;
+use arctangent::direction::arctangent;
 use numbers::angle::Angle;
-use numbers::arctangent::arctangent;
 use numbers::root::root;
 use numbers::sine::SineCosine;
 ghost use mathlib.Core.Path.{_≡_};

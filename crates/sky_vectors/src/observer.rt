@@ -1,6 +1,6 @@
 // Where the runner stands on the flattened Earth.
 use super::vector::Vector;
-use numbers::arctangent::arctangent;
+use arctangent::direction::arctangent;
 use numbers::sine::SineCosine;
 use numbers::sine::sine_cosine_in;
 use numbers::whole::floor_div;
