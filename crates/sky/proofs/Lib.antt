@@ -1,7 +1,6 @@
 pub mod RequestLaws
 pub mod AnswerLaws
 pub mod BatchLaws
-pub mod HeadingLaws
 pub mod DoubleMirror
 pub mod DoubleLaws
 pub mod RefractionLaws

@@ -5,6 +5,5 @@ pub mod Refraction
 pub mod Shown
 pub mod Answer
 pub mod Batch
-pub mod Heading
 pub mod Demand3
 pub mod Cases

@@ -2,7 +2,6 @@
 pub mod air;
 pub mod answer;
 pub mod batch;
-pub mod heading;
 pub mod refraction;
 pub mod request;
 pub mod shown;

@@ -1,9 +1,9 @@
--- `sky::heading::clockwise` meets its contract.
+-- `heading::middle::clockwise` meets its contract.
 use native.Mathlib.Omega.{arith}
 use borrow.Author.Needs.{needs}
-use Rattle.sky.specs.Heading.{clockwise}
-use Rattle.sky.proofs.heading.clockwise.Statement.{statement}
-use Rattle.sky.proofs.heading.clockwise.Tie as tie
+use Rattle.heading.specs.Heading.{clockwise}
+use Rattle.heading.proofs.middle.clockwise.Statement.{statement}
+use Rattle.heading.proofs.middle.clockwise.Tie as tie
 
 add-result : tie.Need-add-result
 add-result c = search needs

@@ -1,4 +1,4 @@
--- `sky::heading::middle_azimuth` meets its contract.
+-- `heading::middle::middle_azimuth` meets its contract.
 use mathlib.Core.Bool.{true}
 use mathlib.Core.Path.{_∙_, _≡_, ap, ap₂, subst, subst⁻¹, sym}
 use Prim.Native.Nat.{_-_, _<_, _≤_, ℕ}
@@ -7,10 +7,10 @@ use lib.IntN.{natAbs, ℤ}
 use borrow.Author.Needs.{needs}
 use Rattle.number_rules.specs.Angle.{full-turn, half-turn}
 use Rattle.numbers.proofs.Machine.{Mirror, any, to-nat}
-use Rattle.sky.specs.Heading.{clockwise, half-way, is-reduced, middle, middle-of}
-use Rattle.sky.proofs.HeadingLaws.{ahead, behind, below-turn, both-reduced, clockwise-below, first-refused, natural, no-test, one-middle, opposite, second-refused, yes-test}
-use Rattle.sky.proofs.heading.middle_azimuth.Statement.{statement}
-use Rattle.sky.proofs.heading.middle_azimuth.Tie as tie
+use Rattle.heading.specs.Heading.{clockwise, half-way, is-reduced, middle, middle-of}
+use Rattle.heading.proofs.HeadingLaws.{ahead, behind, below-turn, both-reduced, clockwise-below, first-refused, natural, no-test, one-middle, opposite, second-refused, yes-test}
+use Rattle.heading.proofs.middle.middle_azimuth.Statement.{statement}
+use Rattle.heading.proofs.middle.middle_azimuth.Tie as tie
 
 abbrev a-mirror : tie.Start → Mirror
 a-mirror s = any (s .fits .a)

@@ -5,7 +5,7 @@ ghost use mathlib.Core.Path.{_≡_};
 ghost use Prim.Native.Nat.{_<_};
 ghost use Rattle.number_rules.specs.Angle.{full-turn};
 ghost use Rattle.calendar.specs.Refusal.{OneAnswer};
-ghost use Rattle.sky.specs.Heading.{is-reduced, clockwise, half-way, middle, middle-answer};
+ghost use Rattle.heading.specs.Heading.{is-reduced, clockwise, half-way, middle, middle-answer};
 
 pub enum Middle {
     Azimuth(u64),

@@ -12,9 +12,9 @@ use borrow.Author.Tests.{eq-eqb, le-ltb, lt-ltb, ne-eqb}
 use Rattle.number_rules.specs.Angle.{full-turn, half-turn}
 use Rattle.calendar.specs.Refusal.{OneAnswer}
 use Rattle.calendar.proofs.RefusalLaws.{never-none, number-tells, one-answer}
-use Rattle.sky.specs.Heading.{MiddleAnswer, clockwise, half-way, is-reduced, middle, middle-answer, middle-of}
-use Rattle.sky.specs.declared.heading.Middle.{Middle}
-use Rattle.sky.specs.declared.heading.Middle.the-variants.{Azimuth, Refused}
+use Rattle.heading.specs.Heading.{MiddleAnswer, clockwise, half-way, is-reduced, middle, middle-answer, middle-of}
+use Rattle.heading.specs.declared.middle.Middle.{Middle}
+use Rattle.heading.specs.declared.middle.Middle.the-variants.{Azimuth, Refused}
 
 -- what a test of `is_reduced` tells
 pub no-test : {r : Bool} {z x : ℤ} → r ≡ is-reduced z → z ≡ x → not r ≡ true → is-reduced x ≡ false

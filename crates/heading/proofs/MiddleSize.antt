@@ -5,7 +5,7 @@ use native.Mathlib.Nat.{mod-lt, zero-lt-suc}
 use lib.Dec.{eqb, ltb}
 use lib.IntN.{natAbs, ℤ}
 use Rattle.number_rules.specs.Angle.{full-turn, half-turn}
-use Rattle.sky.specs.Heading.{MiddleAnswer, clockwise, half-way, is-reduced, middle, middle-of}
+use Rattle.heading.specs.Heading.{MiddleAnswer, clockwise, half-way, is-reduced, middle, middle-of}
 
 abbrev refused : ℕ → MiddleAnswer
 refused n = record { refusal = n; azimuth = 0 }

@@ -6,8 +6,8 @@ use lib.IntN.{ℤ, pos, natAbs}
 use lib.Signed.{leZ, ltZ}
 use Rattle.number_rules.specs.Angle.{full-turn, half-turn}
 use Rattle.calendar.specs.Refusal.{number}
-use Rattle.sky.specs.declared.heading.Middle.{Middle}
-use Rattle.sky.specs.declared.heading.Middle.the-variants.{Azimuth, Refused}
+use Rattle.heading.specs.declared.middle.Middle.{Middle}
+use Rattle.heading.specs.declared.middle.Middle.the-variants.{Azimuth, Refused}
 
 -- an answer in 01's numbers: the refusal, 0 where there is none, and the azimuth, 0 where refused
 pub record MiddleAnswer : Type 0 where

@@ -1,4 +1,4 @@
--- `sky::heading::is_reduced` meets its contract.
+-- `heading::middle::is_reduced` meets its contract.
 use mathlib.Core.Bool.{Bool, _&&_}
 use mathlib.Core.Path.{_∙_, ap, sym}
 use lib.IntN.{pos, ℤ}
@@ -6,9 +6,9 @@ use lib.Signed.{ltZ}
 use borrow.Author.Needs.{needs}
 use Rattle.number_rules.specs.Angle.{full-turn}
 use Rattle.numbers.proofs.Machine.{any, is-le, less, lit, not-le, not-less}
-use Rattle.sky.specs.Heading.{is-reduced}
-use Rattle.sky.proofs.heading.is_reduced.Statement.{statement}
-use Rattle.sky.proofs.heading.is_reduced.Tie as tie
+use Rattle.heading.specs.Heading.{is-reduced}
+use Rattle.heading.proofs.middle.is_reduced.Statement.{statement}
+use Rattle.heading.proofs.middle.is_reduced.Tie as tie
 
 cast-result : tie.Need-cast-result
 cast-result c = search needs
