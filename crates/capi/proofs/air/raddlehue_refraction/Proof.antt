@@ -1,4 +1,4 @@
--- `capi::refraction::raddlehue_refraction` meets its contract.
+-- `capi::air::raddlehue_refraction` meets its contract.
 use mathlib.Core.Path.{_∙_, _≡_, ap, sym}
 use Prim.Native.Nat.{_≤_, ℕ}
 use native.Mathlib.Nat.{le-refl}
@@ -16,8 +16,8 @@ use Rattle.sky.proofs.RequestLaws.{between-size}
 use Rattle.capi.specs.Answers.{refraction-refusal}
 use Rattle.capi.specs.Codes.{air-of, elevation-refusal, kind-refusal}
 use Rattle.capi.proofs.WrittenLaws.{answered, refused}
-use Rattle.capi.proofs.refraction.raddlehue_refraction.Statement.{statement}
-use Rattle.capi.proofs.refraction.raddlehue_refraction.Tie as tie
+use Rattle.capi.proofs.air.raddlehue_refraction.Statement.{statement}
+use Rattle.capi.proofs.air.raddlehue_refraction.Tie as tie
 
 -- the refusal and the refraction that are asked for
 module _ (s : tie.Start) where

@@ -1,4 +1,4 @@
--- `capi::refraction::refraction_refusal` meets its contract.
+-- `capi::air::refraction_refusal` meets its contract.
 use mathlib.Core.Path.{_∙_, ap}
 use borrow.Author.Needs.{needs}
 use Rattle.calendar.specs.Refusal.{_else_, first}
@@ -6,8 +6,8 @@ use Rattle.numbers.proofs.Machine.{any}
 use Rattle.sky.specs.Air.{air-refusals}
 use Rattle.sky.specs.declared.air.Air.{Air}
 use Rattle.capi.specs.Codes.{elevation-refusal}
-use Rattle.capi.proofs.refraction.refraction_refusal.Statement.{statement}
-use Rattle.capi.proofs.refraction.refraction_refusal.Tie as tie
+use Rattle.capi.proofs.air.refraction_refusal.Statement.{statement}
+use Rattle.capi.proofs.air.refraction_refusal.Tie as tie
 
 air-of-requires : tie.Need-air-of-requires
 air-of-requires c κs = search needs
