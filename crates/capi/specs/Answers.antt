@@ -8,7 +8,7 @@ use lib.IntN.{pos, ℤ}
 use lib.ListN.{length}
 use Rattle.calendar.specs.Refusal.{first}
 use Rattle.sum_rules.specs.declared.instant.Instant.{Instant}
-use Rattle.sky.specs.Air.{air-refusals}
+use Rattle.refraction.specs.Air.{air-refusals}
 use Rattle.sky.specs.Answer.{Answer, judged, nowhere, place, shown-place}
 use Rattle.sky.specs.Batch.{BatchAnswer, azimuth-at, batch, elevation-at, left-in}
 use Rattle.sky.specs.Request.{instant, start-from, start-refusals}

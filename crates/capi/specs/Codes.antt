@@ -8,8 +8,8 @@ use Rattle.number_rules.specs.Angle.{quarter-turn}
 use Rattle.sum_rules.specs.Instant.{minus}
 use Rattle.calendar.specs.Refusal.{_else_, _unless_}
 use Rattle.numbers.specs.Whole.{between}
-use Rattle.sky.specs.declared.air.Air.{Air}
-use Rattle.sky.specs.declared.air.Air.the-variants.{Measured, None, Standard}
+use Rattle.refraction.specs.declared.air.Air.{Air}
+use Rattle.refraction.specs.declared.air.Air.the-variants.{Measured, None, Standard}
 use Rattle.sky_vectors.specs.declared.geocentric.Body.{Body}
 use Rattle.sky_vectors.specs.declared.geocentric.Body.the-variants.{Moon, Sun}
 

@@ -7,10 +7,10 @@ use super::codes::or_next;
 use numbers::angle::Angle;
 use numbers::sine_table::table;
 use numbers::whole::is_between;
-use sky::air::air_verdict;
-use sky::refraction::refraction;
+use refraction::air::air_verdict;
+use refraction::formula::refraction;
 ghost use mathlib.Core.Path.{_≡_};
-ghost use Rattle.sky.specs.Refraction.{refraction};
+ghost use Rattle.refraction.specs.Refraction.{refraction};
 ghost use Rattle.capi.specs.Codes.{air-of, elevation-refusal};
 ghost use Rattle.capi.specs.Answers.{refraction-refusal, written-one};
 

@@ -1,7 +1,7 @@
 // The body and the air of a request, which C gives by a code. An unknown code is read as the last one, and refused before that matters.
 use calendar::refusal::Verdict;
 use calendar::refusal::number_of;
-use sky::air::Air;
+use refraction::air::Air;
 use sky_vectors::geocentric::Body;
 ghost use mathlib.Core.Path.{_≡_};
 ghost use Rattle.calendar.specs.Refusal.{_else_, verdict-number};

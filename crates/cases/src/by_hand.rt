@@ -5,7 +5,7 @@ use super::report::write;
 use calendar::refusal::number_of;
 use heading::middle::Middle;
 use heading::middle::middle_azimuth;
-use sky::air::Air;
+use refraction::air::Air;
 use sky::answer::PlaceAnswer;
 use sky::answer::ShownAnswer;
 use sky::answer::place;

@@ -3,7 +3,7 @@ use super::report::double;
 use super::report::named;
 use super::report::write;
 use numbers::sine::cosine;
-use sky::air::Air;
+use refraction::air::Air;
 use sky::answer::PlaceAnswer;
 use sky::answer::place;
 use sky::request::Start;

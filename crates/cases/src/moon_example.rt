@@ -7,7 +7,7 @@ use super::steps::moment_of;
 use super::steps::steps_to;
 use numbers::angle::Angle;
 use numbers::sine_table::table;
-use sky::air::Air;
+use refraction::air::Air;
 use sky::answer::ShownAnswer;
 use sky::answer::shown_place;
 use sky::request::Start;

@@ -2,7 +2,7 @@
 use super::refused::refusal_text;
 use super::sheet::start_from;
 use calendar::refusal::Refusal;
-use sky::air::Air;
+use refraction::air::Air;
 use sky::answer::PlaceAnswer;
 use sky::answer::place;
 use sky_vectors::geocentric::Body;

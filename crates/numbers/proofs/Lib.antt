@@ -1,4 +1,5 @@
 pub mod Machine
+pub mod SineCosineLaws
 pub mod SignLaws
 pub mod WideProduct
 pub mod AngleLaws

@@ -12,7 +12,7 @@ use Rattle.sum_rules.specs.declared.instant.Instant.{Instant}
 use Rattle.calendar.specs.Refusal.{first}
 use Rattle.sky_vectors.specs.Place.{place-at}
 use Rattle.sky_vectors.specs.SkyRange.{Reachable}
-use Rattle.sky.specs.Air.{air-refusals}
+use Rattle.refraction.specs.Air.{air-refusals}
 use Rattle.sky.specs.Answer.{nowhere, place, request-refusals}
 use Rattle.sky.specs.Batch.{BatchAnswer, batch, first-late, later, room-refusals}
 use Rattle.sky.specs.Demand3.{EveryPlaceNear, EverySampleNear, SumsNear}

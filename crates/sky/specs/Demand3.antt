@@ -10,7 +10,7 @@ use Rattle.sky_vectors.specs.declared.station.Point.{Point}
 use Rattle.sky.specs.Answer.{place}
 use Rattle.sky.specs.Batch.{batch, later}
 use Rattle.sky.specs.Request.{instant}
-use Rattle.sky.specs.declared.air.Air.{Air}
+use Rattle.refraction.specs.declared.air.Air.{Air}
 use Rattle.sky.specs.declared.request.Start.{Start}
 
 -- the sums of both bodies at TT n

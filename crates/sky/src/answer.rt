@@ -1,6 +1,4 @@
 // The place of a body, and the place as it is shown: the answer to any request, or the one refusal.
-use super::air::Air;
-use super::air::air_verdict;
 use super::request::Start;
 use super::request::instant_of;
 use super::request::point_verdict;
@@ -11,6 +9,8 @@ use calendar::refusal::Refusal;
 use calendar::refusal::Verdict;
 use calendar::refusal::or_else;
 use numbers::sine_table::table;
+use refraction::air::Air;
+use refraction::air::air_verdict;
 use sky_vectors::geocentric::Body;
 use sky_vectors::place::Place;
 use sky_vectors::place::place_at;

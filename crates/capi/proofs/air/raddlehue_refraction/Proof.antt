@@ -10,8 +10,8 @@ use Rattle.numbers.specs.Whole.{between}
 use Rattle.numbers.proofs.Machine.{any, handed}
 use Rattle.calendar.proofs.RefusalLaws.{none, passes}
 use Rattle.sum_rules.specs.Instant.{minus}
-use Rattle.sky.specs.Air.{air-refusals}
-use Rattle.sky.specs.Refraction.{refraction}
+use Rattle.refraction.specs.Air.{air-refusals}
+use Rattle.refraction.specs.Refraction.{refraction}
 use Rattle.sky.proofs.RequestLaws.{between-size}
 use Rattle.capi.specs.Answers.{refraction-refusal}
 use Rattle.capi.specs.Codes.{air-of, elevation-refusal, kind-refusal}

@@ -3,8 +3,8 @@ use mathlib.Core.Path.{_∙_, ap}
 use borrow.Author.Needs.{needs}
 use Rattle.calendar.specs.Refusal.{_else_, first}
 use Rattle.numbers.proofs.Machine.{any}
-use Rattle.sky.specs.Air.{air-refusals}
-use Rattle.sky.specs.declared.air.Air.{Air}
+use Rattle.refraction.specs.Air.{air-refusals}
+use Rattle.refraction.specs.declared.air.Air.{Air}
 use Rattle.capi.specs.Codes.{elevation-refusal}
 use Rattle.capi.proofs.air.refraction_refusal.Statement.{statement}
 use Rattle.capi.proofs.air.refraction_refusal.Tie as tie

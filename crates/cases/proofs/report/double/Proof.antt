@@ -6,7 +6,7 @@ use native.Mathlib.Omega.{arith}
 use borrow.Author.Needs.{needs}
 use Rattle.numbers.proofs.Machine.{any, arg}
 use Rattle.number_rules.specs.Angle.{full-turn}
-use Rattle.sky.proofs.DoubleMirror.{is-double}
+use Rattle.refraction.proofs.DoubleMirror.{is-double}
 use Rattle.sky.proofs.RequestLaws.{between-size, tested}
 use Rattle.numbers.specs.Whole.{between}
 use Rattle.sum_rules.specs.Instant.{minus}

@@ -11,7 +11,7 @@ use Rattle.sky.proofs.AnswerLaws.{one-place}
 use Rattle.sky.specs.Answer.{place}
 use Rattle.line_answers.specs.PlacesLine.{body-answer, point-from}
 use Rattle.sky.specs.Request.{start-from}
-use Rattle.sky.specs.declared.air.Air.the-variants as Airs
+use Rattle.refraction.specs.declared.air.Air.the-variants as Airs
 use borrow.Author.Needs.{needs}
 use Rattle.line_answers.proofs.places_line.body_answer.Statement.{statement}
 use Rattle.line_answers.proofs.places_line.body_answer.Tie as tie

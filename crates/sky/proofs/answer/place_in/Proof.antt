@@ -4,7 +4,7 @@ use Rattle.calendar.specs.Refusal.{first, number, verdict-number}
 use Rattle.calendar.proofs.RefusalLaws.{never-none}
 use Rattle.sky_vectors.specs.Place.{place-at}
 use Rattle.sky_vectors.specs.SkyRange.{Reachable}
-use Rattle.sky.specs.Air.{air-refusals}
+use Rattle.refraction.specs.Air.{air-refusals}
 use Rattle.sky.specs.Answer.{nowhere, place, request-refusals}
 use Rattle.sky.specs.Request.{instant, point-refusals, start-refusals}
 use Rattle.sky.proofs.AnswerLaws.{judged-value, judged-zeros, one-place}

@@ -1,7 +1,7 @@
 -- `sky::answer::request_verdict` meets its contract.
 use mathlib.Core.List.{_++_}
 use Rattle.calendar.proofs.RefusalLaws.{joined}
-use Rattle.sky.specs.Air.{air-refusals}
+use Rattle.refraction.specs.Air.{air-refusals}
 use Rattle.sky.specs.Request.{point-refusals, start-refusals}
 use borrow.Author.Needs.{needs}
 use Rattle.sky.proofs.answer.request_verdict.Statement.{statement}

@@ -2,9 +2,8 @@
 use Prim.Native.Nat.{_-_, zero-le}
 use lib.IntN.{pos}
 use borrow.Author.Needs.{needs}
-use Rattle.numbers.proofs.Machine.{Mirror, _⊕_, _⊗_, fits, kept, lit}
+use Rattle.numbers.proofs.Machine.{Mirror, _⊕_, _⊗_, field, fits, kept, lit}
 use Rattle.sky.proofs.RequestLaws.{Clock, between-size, clock}
-use Rattle.sky_vectors.proofs.SkyMirror.{field}
 use Rattle.sky.specs.Request.{elapsed}
 use Rattle.sky.specs.declared.request.Start.{Start}
 use Rattle.sum_rules.specs.Instant as Unit

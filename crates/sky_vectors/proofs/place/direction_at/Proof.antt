@@ -6,9 +6,8 @@ use borrow.Author.Needs.{needs}
 use mir.Syntax.{w64}
 use mir.Val.{SFits}
 use mir.ValLaws.{toZ-ofZ}
-use Rattle.numbers.proofs.Machine.{Mirror, asked}
+use Rattle.numbers.proofs.Machine.{Mirror, asked, field}
 use Rattle.sky_vectors.proofs.Parallax.{parallax-small}
-use Rattle.sky_vectors.proofs.SkyMirror.{field}
 use Rattle.sky_vectors.specs.Geocentric.{geocentric}
 use Rattle.sky_vectors.specs.Orientation.{orientation}
 use Rattle.sky_vectors.specs.Place.{direction, from-surface}

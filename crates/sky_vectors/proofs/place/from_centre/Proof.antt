@@ -3,10 +3,11 @@ use mathlib.Core.Path.{_∙_, _≡_, ap, ap₂, refl, subst⁻¹}
 use borrow.Author.Needs.{needs}
 use Rattle.numbers.proofs.Machine.{passed}
 use Rattle.sky_vectors.specs.Place.{from-centre}
-use Rattle.sky_vectors.specs.Product.{sine-cosine}
-use Rattle.sky_vectors.specs.SkyRange.{OneAngle, SmallVector}
+use Rattle.numbers.specs.SineCosine.{OneAngle, sine-cosine}
+use Rattle.sky_vectors.specs.SkyRange.{SmallVector}
 use Rattle.sky_vectors.specs.Vector.{equatorial, meridian, unit-vector}
-use Rattle.sky_vectors.proofs.SkySizes.{equatorial-small, gave-one-angle, gave-sine-cosine, unit-small, widen}
+use Rattle.numbers.proofs.SineCosineLaws.{gave-one-angle, gave-sine-cosine}
+use Rattle.sky_vectors.proofs.SkySizes.{equatorial-small, unit-small, widen}
 use Rattle.sky_vectors.proofs.place.from_centre.Statement.{statement}
 use Rattle.sky_vectors.proofs.place.from_centre.Tie as tie
 

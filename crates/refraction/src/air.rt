@@ -5,7 +5,7 @@ use calendar::refusal::or_else;
 use calendar::refusal::unless;
 ghost use mathlib.Core.Path.{_≡_};
 ghost use Rattle.calendar.specs.Refusal.{first, verdict-number};
-ghost use Rattle.sky.specs.Air.{between-doubles, air-refusals};
+ghost use Rattle.refraction.specs.Air.{between-doubles, air-refusals};
 
 // Measured with a pressure in mbar and a temperature in °C.
 pub enum Air {

@@ -5,10 +5,10 @@ use Prim.Native.Nat.{ℕ}
 use lib.IntN.{negsuc, pos}
 use lib.Ieee as Ieee
 use lib.Ieee.{Float}
-use Rattle.sky.specs.Double.{double}
+use Rattle.refraction.specs.Double.{double}
 use Rattle.calendar.specs.Refusal.{_unless_}
-use Rattle.sky.specs.declared.air.Air.{Air}
-use Rattle.sky.specs.declared.air.Air.the-variants.{Measured, None, Standard}
+use Rattle.refraction.specs.declared.air.Air.{Air}
+use Rattle.refraction.specs.declared.air.Air.the-variants.{Measured, None, Standard}
 
 -- standard means measured at 1010 and 10
 abbrev pub standard-pressure : Float

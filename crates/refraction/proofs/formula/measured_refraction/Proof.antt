@@ -1,12 +1,12 @@
--- `sky::refraction::measured_refraction` meets its contract.
+-- `refraction::formula::measured_refraction` meets its contract.
 use mathlib.Core.Path.{_∙_, ap}
 use borrow.Author.Needs.{needs}
 use Rattle.numbers.proofs.Machine.{arg, passed}
-use Rattle.sky_vectors.specs.Product.{sine-cosine}
-use Rattle.sky.specs.Refraction.{formula, measured-refraction, raised}
-use Rattle.sky_vectors.proofs.SkySizes.{gave-one-angle, gave-sine-cosine}
-use Rattle.sky.proofs.refraction.measured_refraction.Statement.{statement}
-use Rattle.sky.proofs.refraction.measured_refraction.Tie as tie
+use Rattle.numbers.specs.SineCosine.{sine-cosine}
+use Rattle.refraction.specs.Refraction.{formula, measured-refraction, raised}
+use Rattle.numbers.proofs.SineCosineLaws.{gave-one-angle, gave-sine-cosine}
+use Rattle.refraction.proofs.formula.measured_refraction.Statement.{statement}
+use Rattle.refraction.proofs.formula.measured_refraction.Tie as tie
 
 raised-requires : tie.Need-raised-requires
 raised-requires c κs = search needs

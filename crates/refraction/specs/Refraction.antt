@@ -8,12 +8,12 @@ use lib.Signed.{_≤ℤ_, ltZ}
 use Rattle.arithmetic.specs.Floor.{⌊_÷_⌋}
 use Rattle.number_rules.specs.Angle.{quarter-turn}
 use Rattle.numbers.specs.declared.sine.SineCosine.{SineCosine}
-use Rattle.sky.specs.Air.{air-refusals, standard-pressure, standard-temperature, temperature-passes}
-use Rattle.sky.specs.Double.{IsFinite, IsZero, _+d_, _*d_, _/d_, double, nearest, zero-degrees}
-use Rattle.sky_vectors.specs.Product.{sine-cosine}
+use Rattle.refraction.specs.Air.{air-refusals, standard-pressure, standard-temperature, temperature-passes}
+use Rattle.refraction.specs.Double.{IsFinite, IsZero, _+d_, _*d_, _/d_, double, nearest, zero-degrees}
+use Rattle.numbers.specs.SineCosine.{sine-cosine}
 use Rattle.calendar.specs.Refusal.{first}
-use Rattle.sky.specs.declared.air.Air.{Air}
-use Rattle.sky.specs.declared.air.Air.the-variants.{Measured, None, Standard}
+use Rattle.refraction.specs.declared.air.Air.{Air}
+use Rattle.refraction.specs.declared.air.Air.the-variants.{Measured, None, Standard}
 
 -- zero if e is negative: below this elevation
 abbrev pub lowest-refracted : ℤ

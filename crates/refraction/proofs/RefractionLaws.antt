@@ -17,9 +17,9 @@ use Rattle.number_rules.specs.SineTable.{sines}
 use Rattle.numbers.proofs.Machine.{lit, not-less}
 use Rattle.number_rules.proofs.SineLaws.{fold-low, half-high, half-low, reduced-same, sign-low}
 use Rattle.number_rules.proofs.SineSteps.{radians-most, square-most}
-use Rattle.sky.specs.Double.{zero-degrees}
-use Rattle.sky.specs.Refraction.{IsRefracted, lowest-refracted, raised, refraction, refraction-in}
-use Rattle.sky.specs.declared.air.Air.{Air}
+use Rattle.refraction.specs.Double.{zero-degrees}
+use Rattle.refraction.specs.Refraction.{IsRefracted, lowest-refracted, raised, refraction, refraction-in}
+use Rattle.refraction.specs.declared.air.Air.{Air}
 
 -- e + 511,000,000 is above zero
 pub divisor : {e : ℤ} → IsRefracted e → (d : ℕ) × (e +ℤ pos 511_000_000 ≡ pos d) × (0 < d) × (d ≤ 9_511_000_000)

@@ -1,14 +1,14 @@
--- `sky::refraction::refraction` meets its contract.
+-- `refraction::formula::refraction` meets its contract.
 use mathlib.Core.Bool.{false}
 use mathlib.Core.Path.{_∙_, _≡_, ap, subst⁻¹}
 use lib.Ieee as Ieee
 use lib.Signed.{ltZ}
 use borrow.Author.Needs.{needs}
 use Rattle.numbers.proofs.Machine.{Mirror, arg, lit, not-less}
-use Rattle.sky.specs.Air.{standard-pressure, standard-temperature}
-use Rattle.sky.specs.Refraction.{IsRefracted, lowest-refracted, measured-refraction, refraction, refraction-in}
-use Rattle.sky.proofs.refraction.refraction.Statement.{statement}
-use Rattle.sky.proofs.refraction.refraction.Tie as tie
+use Rattle.refraction.specs.Air.{standard-pressure, standard-temperature}
+use Rattle.refraction.specs.Refraction.{IsRefracted, lowest-refracted, measured-refraction, refraction, refraction-in}
+use Rattle.refraction.proofs.formula.refraction.Statement.{statement}
+use Rattle.refraction.proofs.formula.refraction.Tie as tie
 
 abbrev e : tie.Start → Mirror
 e a = arg (a .fits .elevation) (a .pre .1)

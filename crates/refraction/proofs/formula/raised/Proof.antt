@@ -1,14 +1,14 @@
--- `sky::refraction::raised` meets its contract.
+-- `refraction::formula::raised` meets its contract.
 use mathlib.Core.Path.{_∙_, _≡_, ap, subst⁻¹}
 use Prim.Native.Nat.{_<_}
 use native.Mathlib.Omega.{arith}
 use lib.IntN.{_+ℤ_, natAbs, pos, ℤ}
 use Rattle.arithmetic.specs.Floor.{⌊_÷_⌋}
 use Rattle.numbers.proofs.Machine.{Mirror, _⊕_, arg, fits, kept, lit, small-floor-gave, to-nat}
-use Rattle.sky.specs.Refraction.{raised}
-use Rattle.sky.proofs.RefractionLaws.{divisor}
-use Rattle.sky.proofs.refraction.raised.Statement.{statement}
-use Rattle.sky.proofs.refraction.raised.Tie as tie
+use Rattle.refraction.specs.Refraction.{raised}
+use Rattle.refraction.proofs.RefractionLaws.{divisor}
+use Rattle.refraction.proofs.formula.raised.Statement.{statement}
+use Rattle.refraction.proofs.formula.raised.Tie as tie
 
 module _ (a : tie.Start) where
   abbrev e : Mirror

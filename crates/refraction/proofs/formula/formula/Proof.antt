@@ -1,10 +1,10 @@
--- `sky::refraction::formula` meets its contract. A literal is its bits to the machine, which compute to the rule's number.
+-- `refraction::formula::formula` meets its contract. A literal is its bits to the machine, which compute to the rule's number.
 use lib.Ieee as Ieee
-use Rattle.sky.specs.Refraction.{formula}
-use Rattle.sky.proofs.DoubleMirror.{is-double}
-use Rattle.sky_vectors.proofs.SkyMirror.{cosine-in, sine-in}
-use Rattle.sky.proofs.refraction.formula.Statement.{statement}
-use Rattle.sky.proofs.refraction.formula.Tie as tie
+use Rattle.refraction.specs.Refraction.{formula}
+use Rattle.refraction.proofs.DoubleMirror.{is-double}
+use Rattle.numbers.proofs.SineCosineLaws.{cosine-in, sine-in}
+use Rattle.refraction.proofs.formula.formula.Statement.{statement}
+use Rattle.refraction.proofs.formula.formula.Tie as tie
 
 int-to-float-result : tie.Need-int-to-float-result
 int-to-float-result c = is-double (cosine-in (c .before .before .before .pre)) tt

@@ -10,8 +10,8 @@ ghost use Prim.Native.Nat.{_≤_};
 ghost use lib.IntN.{natAbs};
 ghost use Rattle.number_rules.specs.Angle.{quarter-turn};
 ghost use Rattle.number_rules.specs.SineTable.{sines};
-ghost use Rattle.sky.specs.Refraction.{IsRefracted, raised, formula, measured-refraction, refraction};
-ghost use Rattle.sky_vectors.specs.SkyRange.{OneAngle};
+ghost use Rattle.refraction.specs.Refraction.{IsRefracted, raised, formula, measured-refraction, refraction};
+ghost use Rattle.numbers.specs.SineCosine.{OneAngle};
 
 // Nothing is refracted below this elevation.
 const LOWEST_REFRACTED: i64 = 0;

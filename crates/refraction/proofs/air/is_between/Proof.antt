@@ -1,6 +1,6 @@
--- `sky::air::is_between` meets its contract.
-use Rattle.sky.proofs.air.is_between.Statement.{statement}
-use Rattle.sky.proofs.air.is_between.Tie as tie
+-- `refraction::air::is_between` meets its contract.
+use Rattle.refraction.proofs.air.is_between.Statement.{statement}
+use Rattle.refraction.proofs.air.is_between.Tie as tie
 
 returns : tie.Need-returns
 returns c = simp (c .if1 .taken)

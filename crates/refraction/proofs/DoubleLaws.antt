@@ -18,8 +18,8 @@ use lib.Ieee.Positive.{above-of-le, first-pos, le→cross, through}
 use lib.Ieee.Scale.{round-same}
 use mir.Facts.{and-yes}
 use borrow.Author.Tests.{ne-eqb}
-use Rattle.sky.specs.Air.{between-doubles}
-use Rattle.sky.specs.Double.{IsFinite, IsZero, _*d_, _/d_, double, nearest}
+use Rattle.refraction.specs.Air.{between-doubles}
+use Rattle.refraction.specs.Double.{IsFinite, IsZero, _*d_, _/d_, double, nearest}
 
 holds : {b : Bool} → b ≡ true → T b
 holds e = subst⁻¹ T e tt

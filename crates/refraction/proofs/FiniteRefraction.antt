@@ -14,15 +14,15 @@ use lib.Ieee.Fits.{down-pos}
 use borrow.Author.Tests.{le-ltb}
 use Rattle.numbers.specs.declared.sine.SineCosine.{SineCosine}
 use Rattle.number_rules.proofs.SineSize.{cosine-most, sine-most}
-use Rattle.sky.specs.Air.{air-refusals, pressure-passes, standard-pressure, standard-temperature, temperature-passes}
-use Rattle.sky.specs.Double.{IsFinite, _+d_, _*d_, _/d_, double, nearest}
-use Rattle.sky_vectors.specs.Product.{sine-cosine}
-use Rattle.sky.specs.Refraction.{FiniteWhereAccepted, IsRefracted, formula, measured-refraction, raised, refraction-in}
+use Rattle.refraction.specs.Air.{air-refusals, pressure-passes, standard-pressure, standard-temperature, temperature-passes}
+use Rattle.refraction.specs.Double.{IsFinite, _+d_, _*d_, _/d_, double, nearest}
+use Rattle.numbers.specs.SineCosine.{sine-cosine}
+use Rattle.refraction.specs.Refraction.{FiniteWhereAccepted, IsRefracted, formula, measured-refraction, raised, refraction-in}
 use Rattle.calendar.specs.Refusal.{_unless_, first}
-use Rattle.sky.specs.declared.air.Air.{Air}
-use Rattle.sky.specs.declared.air.Air.the-variants.{Measured, None, Standard}
-use Rattle.sky.proofs.DoubleLaws.{AtLeast1, AtMost, bounded, bounded-finite, product-least, product-most, quotient-most, rounds-least, rounds-most, whole-least, whole-most, within-most}
-use Rattle.sky.proofs.RefractionLaws.{of-refraction, raised-sine}
+use Rattle.refraction.specs.declared.air.Air.{Air}
+use Rattle.refraction.specs.declared.air.Air.the-variants.{Measured, None, Standard}
+use Rattle.refraction.proofs.DoubleLaws.{AtLeast1, AtMost, bounded, bounded-finite, product-least, product-most, quotient-most, rounds-least, rounds-most, whole-least, whole-most, within-most}
+use Rattle.refraction.proofs.RefractionLaws.{of-refraction, raised-sine}
 use Rattle.calendar.proofs.RefusalLaws.{none, passes}
 
 -- ---- P/1010 and 283/(273+T)

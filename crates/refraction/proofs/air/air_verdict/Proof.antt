@@ -1,14 +1,14 @@
--- `sky::air::air_verdict` meets its contract.
+-- `refraction::air::air_verdict` meets its contract.
 use mathlib.Core.List.{[], _∷_}
 use mathlib.Core.Path.{_∙_, _≡_, ap, refl}
 use mathlib.Core.Bool.{Bool}
 use lib.Ieee as Ieee
 use Rattle.calendar.proofs.RefusalLaws.{alone, joined}
 use Rattle.calendar.specs.Refusal.{_unless_, first}
-use Rattle.sky.specs.Air.{air-refusals, pressure-passes, temperature-passes}
+use Rattle.refraction.specs.Air.{air-refusals, pressure-passes, temperature-passes}
 use borrow.Author.Needs.{needs}
-use Rattle.sky.proofs.air.air_verdict.Statement.{statement}
-use Rattle.sky.proofs.air.air_verdict.Tie as tie
+use Rattle.refraction.proofs.air.air_verdict.Statement.{statement}
+use Rattle.refraction.proofs.air.air_verdict.Tie as tie
 
 -- a literal is its bits to the machine, which compute to the rule's number
 pressure : (c : tie.After-is-between) → c .is-between .result ≡ pressure-passes (c .before .before .air .given .0 .0)

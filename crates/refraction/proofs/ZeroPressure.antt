@@ -4,13 +4,13 @@ use mathlib.Core.Path.{_≡_, refl}
 use lib.IntN.{ℤ}
 use lib.Ieee as Ieee
 use lib.Ieee.{Float}
-use Rattle.sky.specs.Air.{temperature-passes}
-use Rattle.sky.specs.Double.{IsZero}
-use Rattle.sky.specs.Refraction.{IsRefracted, ZeroAtZeroPressure, formula, measured-refraction, refraction-in}
-use Rattle.sky.specs.declared.air.Air.the-variants.{Measured}
-use Rattle.sky.proofs.DoubleLaws.{bounded-finite, zero-over, zero-times}
-use Rattle.sky.proofs.FiniteRefraction.{cotangent-most, warmth-most}
-use Rattle.sky.proofs.RefractionLaws.{of-refraction}
+use Rattle.refraction.specs.Air.{temperature-passes}
+use Rattle.refraction.specs.Double.{IsZero}
+use Rattle.refraction.specs.Refraction.{IsRefracted, ZeroAtZeroPressure, formula, measured-refraction, refraction-in}
+use Rattle.refraction.specs.declared.air.Air.the-variants.{Measured}
+use Rattle.refraction.proofs.DoubleLaws.{bounded-finite, zero-over, zero-times}
+use Rattle.refraction.proofs.FiniteRefraction.{cotangent-most, warmth-most}
+use Rattle.refraction.proofs.RefractionLaws.{of-refraction}
 
 measured-zero : (P T : Float) {e : ℤ} → IsZero P → temperature-passes T ≡ true → IsRefracted e → IsZero (measured-refraction P T e)
 unfolding measured-refraction formula
