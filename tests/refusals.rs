@@ -8,7 +8,7 @@ const LIST: &str = "docs/REFUSALS.md";
 const HEADER: &str = "include/raddlehue.h";
 const CRATE: &str = "bindings/rust/src/refusal.rs";
 const NUMBERS: &str = "crates/calendar/specs/Refusal.antt";
-const BATCH: &str = "crates/sky/specs/Batch.antt";
+const BATCH: &str = "crates/batch/specs/Batch.antt";
 const CODES: &str = "crates/capi/specs/Codes.antt";
 
 // Where our own numbers begin; the papers' stay below.

@@ -7,7 +7,7 @@ use native.Mathlib.Omega.{arith}
 use lib.Dec.{leb}
 use lib.IntN.{ℤ}
 use borrow.Author.Tests.{ne-eqb}
-use Rattle.sky.specs.Batch.{BatchAnswer, filled, left-in}
+use Rattle.batch.specs.Batch.{BatchAnswer, filled, left-in}
 use Rattle.capi.specs.Answers.{told-of-batch}
 use Rattle.capi.specs.Codes.{body-refusal, moon}
 

@@ -10,8 +10,8 @@ use Rattle.calendar.specs.Refusal.{first}
 use Rattle.sum_rules.specs.declared.instant.Instant.{Instant}
 use Rattle.refraction.specs.Air.{air-refusals}
 use Rattle.sky.specs.Answer.{Answer, judged, nowhere, place, shown-place}
-use Rattle.sky.specs.Batch.{BatchAnswer, azimuth-at, batch, elevation-at, left-in}
-use Rattle.sky.specs.Request.{instant, start-from, start-refusals}
+use Rattle.batch.specs.Batch.{BatchAnswer, azimuth-at, batch, elevation-at, left-in}
+use Rattle.request.specs.Request.{instant, start-from, start-refusals}
 use Rattle.sky.specs.Shown.{nothing-shown}
 use Rattle.sky.specs.declared.shown.Shown.{Shown}
 use Rattle.sky_vectors.specs.declared.place.Place.{Place}

@@ -1,8 +1,8 @@
 // A start and a point as C hands them over: their numbers in order.
-use sky::request::Start;
+use request::start::Start;
 use sky_vectors::station::Point;
 ghost use mathlib.Core.Path.{_≡_};
-ghost use Rattle.sky.specs.Request.{start-from};
+ghost use Rattle.request.specs.Request.{start-from};
 ghost use Rattle.capi.specs.Given.{point-from};
 
 pub fn start_of(numbers: &[i64; 9]) -> Start

@@ -4,9 +4,9 @@ use super::codes::body_refusal;
 use super::given::point_of;
 use super::given::start_of;
 use super::lent::put_counts;
+use batch::samples::Batch;
+use batch::samples::places_at;
 use calendar::refusal::number_of;
-use sky::batch::Batch;
-use sky::batch::places_at;
 ghost use mathlib.Core.Path.{_≡_};
 ghost use Rattle.capi.specs.Answers.{azimuths-left, coded-batch, elevations-left, told-of-batch};
 

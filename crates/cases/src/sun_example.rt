@@ -8,9 +8,9 @@ use super::steps::moment_of;
 use super::steps::steps_to;
 use numbers::sine_table::table;
 use refraction::air::Air;
+use request::start::Start;
 use sky::answer::ShownAnswer;
 use sky::answer::shown_place;
-use sky::request::Start;
 use sky_vectors::geocentric::Body;
 use sky_vectors::geocentric::Geocentric;
 use sky_vectors::orientation::Orientation;
@@ -21,7 +21,7 @@ use sums::sun::longitude_degrees;
 use sums::sun::sun_at;
 ghost use mathlib.Core.Path.{_≡_};
 ghost use Rattle.calendar.specs.Refusal.{first};
-ghost use Rattle.sky.specs.Request.{start-refusals, point-refusals};
+ghost use Rattle.request.specs.Request.{start-refusals, point-refusals};
 
 const DELTA: i64 = (67 * SECOND) as i64;
 

@@ -18,7 +18,7 @@ use Rattle.line_answers.specs.declared.sheet.Arguments.{Arguments}
 use Rattle.line_answers.specs.declared.sheet.Row.{Row}
 use Rattle.line_answers.specs.declared.sheet.Row.the-variants as Rows
 use Rattle.line_answers.specs.Printed.{newline}
-use Rattle.sky.specs.Request.{start-from}
+use Rattle.request.specs.Request.{start-from}
 use Rattle.line_answers.specs.Sheet.{arguments-line, no-arguments, row-answer, row-from, start-row}
 
 -- zeros at the end of a row change no column

@@ -2,9 +2,9 @@
 use super::refused::refusal_text;
 use calendar::refusal::Refusal;
 use calendar::refusal::Verdict;
-use sky::request::Start;
-use sky::request::instant_of;
-use sky::request::start_verdict;
+use request::start::Start;
+use request::start::instant_of;
+use request::start::start_verdict;
 use sum_rules::instant::Instant;
 use sums::instant::powers_at;
 use sums::sidereal::mean_at;
@@ -18,7 +18,7 @@ ghost use Prim.Native.Nat.{_≤_};
 ghost use Rattle.text.specs.Decimal.{text-room, written};
 ghost use Rattle.calendar.specs.Refusal.{OneAnswer};
 ghost use Rattle.sky_vectors.specs.SkyRange.{Reachable};
-ghost use Rattle.sky.specs.Request.{start-from};
+ghost use Rattle.request.specs.Request.{start-from};
 ghost use Rattle.line_answers.specs.Sheet.{arguments, row-answer, start-row, sheet-row, arguments-line, sheet-line};
 
 // TT, and L' and the mean sidereal time in 10⁻⁸ degree.

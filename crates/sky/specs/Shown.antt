@@ -1,8 +1,6 @@
 -- The shown place (01, "Refraction").
-use Prim.Native.Nat.{_≤_}
-use lib.IntN.{natAbs, pos, ℤ}
+use lib.IntN.{pos, ℤ}
 use lib.Ieee.{Float}
-use Rattle.number_rules.specs.Angle.{full-turn, quarter-turn}
 use Rattle.refraction.specs.Double.{_+d_, _/d_, double, zero-degrees}
 use Rattle.refraction.specs.Refraction.{refraction}
 use Rattle.refraction.specs.declared.air.Air.{Air}

@@ -1,8 +1,4 @@
 // The place of a body, and the place as it is shown: the answer to any request, or the one refusal.
-use super::request::Start;
-use super::request::instant_of;
-use super::request::point_verdict;
-use super::request::start_verdict;
 use super::shown::Shown;
 use super::shown::shown_at;
 use calendar::refusal::Refusal;
@@ -11,6 +7,10 @@ use calendar::refusal::or_else;
 use numbers::sine_table::table;
 use refraction::air::Air;
 use refraction::air::air_verdict;
+use request::point::point_verdict;
+use request::start::Start;
+use request::start::instant_of;
+use request::start::start_verdict;
 use sky_vectors::geocentric::Body;
 use sky_vectors::place::Place;
 use sky_vectors::place::place_at;

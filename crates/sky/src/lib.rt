@@ -1,5 +1,3 @@
-// The sky: a body's place from a point on Earth.
+// The sky: a body's place from a point on Earth, and as it is shown.
 pub mod answer;
-pub mod batch;
-pub mod request;
 pub mod shown;

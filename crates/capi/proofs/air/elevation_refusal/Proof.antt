@@ -5,7 +5,7 @@ use borrow.Author.Needs.{needs}
 use Rattle.number_rules.specs.Angle.{quarter-turn}
 use Rattle.numbers.specs.Whole.{between}
 use Rattle.sum_rules.specs.Instant.{minus}
-use Rattle.sky.proofs.RequestLaws.{tested}
+use Rattle.request.proofs.RequestLaws.{tested}
 use Rattle.capi.proofs.air.elevation_refusal.Statement.{statement}
 use Rattle.capi.proofs.air.elevation_refusal.Tie as tie
 

@@ -12,7 +12,7 @@ use Rattle.calendar.proofs.RefusalLaws.{none, passes}
 use Rattle.sum_rules.specs.Instant.{minus}
 use Rattle.refraction.specs.Air.{air-refusals}
 use Rattle.refraction.specs.Refraction.{refraction}
-use Rattle.sky.proofs.RequestLaws.{between-size}
+use Rattle.request.proofs.RequestLaws.{between-size}
 use Rattle.capi.specs.Answers.{refraction-refusal}
 use Rattle.capi.specs.Codes.{air-of, elevation-refusal, kind-refusal}
 use Rattle.capi.proofs.WrittenLaws.{answered, refused}

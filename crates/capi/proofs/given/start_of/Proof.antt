@@ -1,6 +1,6 @@
 -- `capi::given::start_of` meets its contract.
 use borrow.Author.Needs.{needs}
-use Rattle.sky.specs.Request.{start-from}
+use Rattle.request.specs.Request.{start-from}
 use Rattle.capi.proofs.given.start_of.Statement.{statement}
 use Rattle.capi.proofs.given.start_of.Tie as tie
 

@@ -8,8 +8,8 @@ use Rattle.calendar.specs.Refusal.{first}
 use Rattle.numbers.proofs.Machine.{passed}
 use Rattle.sum_rules.specs.declared.instant.Instant.{Instant}
 use Rattle.sky.specs.Answer.{Answer}
-use Rattle.sky.specs.Request.{instant, start-from, start-refusals}
-use Rattle.sky.specs.declared.request.Start.{Start}
+use Rattle.request.specs.Request.{instant, start-from, start-refusals}
+use Rattle.request.specs.declared.start.Start.{Start}
 use Rattle.sky.proofs.AnswerLaws.{judged-refusal, judged-value}
 use Rattle.capi.specs.Answers.{instant-values, started}
 use Rattle.capi.proofs.WrittenLaws.{refused, seen}

@@ -5,7 +5,7 @@ use Prim.Native.Nat.{ℕ}
 use borrow.Author.Needs.{needs}
 use Rattle.numbers.proofs.Machine.{passed}
 use Rattle.sky.specs.Answer.{Answer, nowhere, place, place-answer}
-use Rattle.sky.specs.Request.{start-from}
+use Rattle.request.specs.Request.{start-from}
 use Rattle.sky_vectors.specs.declared.place.Place.{Place}
 use Rattle.capi.specs.Answers.{coded-place, place-values}
 use Rattle.capi.specs.Codes.{air-of, body-of, code-refusal}

@@ -3,7 +3,7 @@ use mathlib.Core.Path.{_∙_, _≡_, ap, sym}
 use Prim.Native.Nat.{ℕ}
 use borrow.Author.Needs.{needs}
 use Rattle.sky.specs.Answer.{Answer, shown-answer, shown-place}
-use Rattle.sky.specs.Request.{start-from}
+use Rattle.request.specs.Request.{start-from}
 use Rattle.sky.specs.Shown.{nothing-shown}
 use Rattle.sky.specs.declared.shown.Shown.{Shown}
 use Rattle.capi.specs.Answers.{coded-shown-place, shown-values}

@@ -6,8 +6,8 @@ use lib.IntN.{ℤ}
 use lib.ListN.{length}
 use borrow.Author.Needs.{needs}
 use Rattle.calendar.proofs.RefusalLaws.{never-late, never-none}
-use Rattle.sky.specs.Batch.{BatchAnswer, azimuth-at, batch, batch-answer, elevation-at, left-in}
-use Rattle.sky.specs.Request.{instant, start-from}
+use Rattle.batch.specs.Batch.{BatchAnswer, azimuth-at, batch, batch-answer, elevation-at, left-in}
+use Rattle.request.specs.Request.{instant, start-from}
 use Rattle.capi.specs.Answers.{azimuths-left, coded-batch, elevations-left, told-of-batch}
 use Rattle.capi.specs.Codes.{body-refusal}
 use Rattle.capi.specs.Given.{point-from}

@@ -1,4 +1,4 @@
--- `sun_example::site` meets its contract: none of 7 to 9 applies.
+-- `cases::sun_example::site` meets its contract: none of 7 to 9 applies.
 use mathlib.Core.Path.{refl}
 use Rattle.calendar.specs.Refusal.{first}
 use Rattle.numbers.specs.Whole.{between}

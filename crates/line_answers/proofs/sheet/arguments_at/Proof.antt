@@ -1,4 +1,4 @@
--- `sheet::arguments_at` meets its contract.
+-- `line_answers::sheet::arguments_at` meets its contract.
 use mathlib.Core.List.{List}
 use mathlib.Core.Path.{_∙_, _≡_, ap}
 use Prim.Native.Nat.{_≤_}

@@ -2,7 +2,7 @@
 use mathlib.Core.List.{_++_}
 use Rattle.calendar.proofs.RefusalLaws.{joined}
 use Rattle.refraction.specs.Air.{air-refusals}
-use Rattle.sky.specs.Request.{point-refusals, start-refusals}
+use Rattle.request.specs.Request.{point-refusals, start-refusals}
 use borrow.Author.Needs.{needs}
 use Rattle.sky.proofs.answer.request_verdict.Statement.{statement}
 use Rattle.sky.proofs.answer.request_verdict.Tie as tie

@@ -6,7 +6,7 @@ use Rattle.sky_vectors.proofs.PlaceLaws.{place-at-in-turns}
 use Rattle.sky_vectors.specs.Place.{InTurns, place-at}
 use Rattle.sky_vectors.specs.declared.place.Place.{Place}
 use Rattle.sky.specs.Answer.{Answer, nowhere, place, place-answer, request-refusals, shown-place}
-use Rattle.sky.specs.Request.{instant}
+use Rattle.request.specs.Request.{instant}
 use Rattle.sky.specs.Shown.{nothing-shown, shown}
 use Rattle.sky.proofs.AnswerLaws.{judged-refusal, judged-value, judged-zeros, not-refused, one-shown}
 use Rattle.sky.proofs.Demand3.{every-place-near}

@@ -1,4 +1,4 @@
--- `horizon::elevation` meets its contract: each call's equation, put into the next.
+-- `sky_vectors::horizon::elevation` meets its contract: each call's equation, put into the next.
 use mathlib.Core.Path.{_∙_, _≡_, ap, ap₂}
 use lib.IntN.{ℤ}
 use borrow.Author.Needs.{needs}

@@ -1,4 +1,4 @@
--- `horizon::level` meets its contract. The two squares, each at most 9·10¹⁸, fit 64 unsigned bits together.
+-- `sky_vectors::horizon::level` meets its contract. The two squares, each at most 9·10¹⁸, fit 64 unsigned bits together.
 use mathlib.Core.Path.{_∙_, _≡_, ap, ap₂, sym}
 use Prim.Native.Nat.{_+_, _≤_}
 use native.Mathlib.Omega.{arith}

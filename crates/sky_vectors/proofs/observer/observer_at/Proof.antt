@@ -1,4 +1,4 @@
--- `observer::observer_at` meets its contract. Each local is mirrored once, at the place where it is known.
+-- `sky_vectors::observer::observer_at` meets its contract. Each local is mirrored once, at the place where it is known.
 use mathlib.Core.Path.{_∙_, _≡_, ap}
 use lib.IntN.{ℤ}
 use borrow.Author.Needs.{needs}

@@ -1,4 +1,4 @@
--- `observer::shifted` meets its contract.
+-- `sky_vectors::observer::shifted` meets its contract.
 use borrow.Author.Needs.{needs}
 use Rattle.numbers.proofs.Machine.{Mirror, _⊖_, _⊗_, arg, field, fits, floor-gave, kept}
 use Rattle.sky_vectors.specs.Observer.{shifted}

@@ -1,4 +1,4 @@
--- `place::direction_at` meets its contract: the powers are those of the instant, so the body and the orientation are those of the rule.
+-- `sky_vectors::place::direction_at` meets its contract: the powers are those of the instant, so the body and the orientation are those of the rule.
 use mathlib.Core.Path.{_∙_, _≡_, ap, subst⁻¹}
 use Prim.Native.Nat.{_≤_}
 use lib.IntN.{natAbs}

@@ -1,4 +1,4 @@
--- `place::from_centre` meets its contract: each call's equation, put into the next.
+-- `sky_vectors::place::from_centre` meets its contract: each call's equation, put into the next.
 use mathlib.Core.Path.{_∙_, _≡_, ap, ap₂, refl, subst⁻¹}
 use borrow.Author.Needs.{needs}
 use Rattle.numbers.proofs.Machine.{passed}

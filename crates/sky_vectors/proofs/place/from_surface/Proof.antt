@@ -1,4 +1,4 @@
--- `place::from_surface` meets its contract.
+-- `sky_vectors::place::from_surface` meets its contract.
 use mathlib.Core.Path.{_∙_, subst⁻¹}
 use borrow.Author.Needs.{needs}
 use Rattle.numbers.proofs.Machine.{Mirror, field}

@@ -1,4 +1,4 @@
--- `rotation::rotated` meets its contract: each of its four products fits, and each sum of two.
+-- `sky_vectors::rotation::rotated` meets its contract: each of its four products fits, and each sum of two.
 use borrow.Author.Needs.{needs}
 use Rattle.numbers.proofs.Machine.{Mirror, _⊕_, _⊖_, _⊗_, arg, fits, floor-gave, kept}
 use Rattle.sky_vectors.specs.Product.{_·_}

@@ -1,4 +1,4 @@
--- `station::runner_at` meets its contract.
+-- `sky_vectors::station::runner_at` meets its contract.
 use mathlib.Core.Path.{_∙_, _≡_, ap, ap₂}
 use lib.IntN.{_*ℤ_, pos}
 use borrow.Author.Needs.{needs}

@@ -1,4 +1,4 @@
--- `vector::unit_vector` meets its contract.
+-- `sky_vectors::vector::unit_vector` meets its contract.
 use borrow.Author.Needs.{needs}
 use Rattle.numbers.proofs.Machine.{Mirror, _⊗_, fits, floor-gave, kept}
 use Rattle.sky_vectors.specs.Product.{_·_}
