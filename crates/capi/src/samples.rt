@@ -1,11 +1,11 @@
 // A batch of places into two buffers that the caller lends.
-use super::codes::body_of;
-use super::codes::body_refusal;
-use super::given::point_of;
-use super::given::start_of;
-use super::lent::put_counts;
 use batch::samples::Batch;
 use batch::samples::places_at;
+use boundary::codes::body_of;
+use boundary::codes::body_refusal;
+use boundary::given::point_of;
+use boundary::given::start_of;
+use boundary::lent::put_counts;
 use calendar::refusal::number_of;
 ghost use mathlib.Core.Path.{_≡_};
 ghost use Rattle.capi.specs.Answers.{azimuths-left, coded-batch, elevations-left, told-of-batch};

@@ -13,8 +13,7 @@ use Rattle.sum_rules.specs.Instant.{minus}
 use Rattle.refraction.specs.Air.{air-refusals}
 use Rattle.refraction.specs.Refraction.{refraction}
 use Rattle.request.proofs.RequestLaws.{between-size}
-use Rattle.capi.specs.Answers.{refraction-refusal}
-use Rattle.capi.specs.Codes.{air-of, elevation-refusal, kind-refusal}
+use Rattle.boundary.specs.Codes.{air-of, elevation-refusal, kind-refusal, refraction-refusal}
 use Rattle.capi.proofs.WrittenLaws.{answered, refused}
 use Rattle.capi.proofs.air.raddlehue_refraction.Statement.{statement}
 use Rattle.capi.proofs.air.raddlehue_refraction.Tie as tie

@@ -9,8 +9,8 @@ use Rattle.calendar.proofs.RefusalLaws.{never-late, never-none}
 use Rattle.batch.specs.Batch.{BatchAnswer, azimuth-at, batch, batch-answer, elevation-at, left-in}
 use Rattle.request.specs.Request.{instant, start-from}
 use Rattle.capi.specs.Answers.{azimuths-left, coded-batch, elevations-left, told-of-batch}
-use Rattle.capi.specs.Codes.{body-refusal}
-use Rattle.capi.specs.Given.{point-from}
+use Rattle.boundary.specs.Codes.{body-refusal}
+use Rattle.boundary.specs.Given.{point-from}
 use Rattle.capi.proofs.BatchLaws.{body-not-late, buffer-kept, untold}
 use Rattle.capi.proofs.WrittenLaws.{known, unknown}
 use Rattle.capi.proofs.samples.raddlehue_batch.Statement.{statement}

@@ -1,13 +1,15 @@
 -- The codes of a body and of an air, and the refusals outside 01's numbers: no request can be formed, so they are given before all others.
 use mathlib.Core.Bool.{cond}
+use mathlib.Core.List.{_∷_}
 use Prim.Native.Nat.{ℕ}
 use lib.Dec.{eqb, leb}
 use lib.Ieee.{Float}
-use lib.IntN.{pos, ℤ}
+use lib.IntN.{natAbs, pos, ℤ}
 use Rattle.number_rules.specs.Angle.{quarter-turn}
-use Rattle.sum_rules.specs.Instant.{minus}
-use Rattle.calendar.specs.Refusal.{_else_, _unless_}
+use Rattle.sum_rules.specs.Instant.{furthest, minus}
+use Rattle.calendar.specs.Refusal.{_else_, _unless_, first}
 use Rattle.numbers.specs.Whole.{between}
+use Rattle.refraction.specs.Air.{air-refusals}
 use Rattle.refraction.specs.declared.air.Air.{Air}
 use Rattle.refraction.specs.declared.air.Air.the-variants.{Measured, None, Standard}
 use Rattle.sky_vectors.specs.declared.geocentric.Body.{Body}
@@ -61,3 +63,11 @@ code-refusal body kind = body-refusal body else kind-refusal kind
 -- within ±90 degrees
 abbrev pub elevation-refusal : ℤ → ℕ
 elevation-refusal e = no-elevation unless between (minus quarter-turn) e (pos quarter-turn)
+
+-- an unknown air, an elevation beyond ±90 degrees, then 10 and 11
+abbrev pub refraction-refusal : ℤ → ℕ → Float → Float → ℕ
+refraction-refusal e air pressure temperature = first (kind-refusal air ∷ elevation-refusal e ∷ air-refusals (air-of air pressure temperature))
+
+-- no further from 2000 than the sums reach
+abbrev pub reach-refusal : ℤ → ℕ
+reach-refusal n = out-of-reach unless leb (natAbs n) furthest

@@ -5,7 +5,7 @@ use refraction::air::Air;
 use sky_vectors::geocentric::Body;
 ghost use mathlib.Core.Path.{_≡_};
 ghost use Rattle.calendar.specs.Refusal.{_else_, verdict-number};
-ghost use Rattle.capi.specs.Codes.{air-of, body-of, body-refusal, code-refusal, kind-refusal};
+ghost use Rattle.boundary.specs.Codes.{air-of, body-of, body-refusal, code-refusal, kind-refusal};
 
 // The refusals outside 01's numbers.
 pub const UNKNOWN_BODY: u32 = 101;

@@ -1,8 +1,8 @@
--- `capi::given::start_of` meets its contract.
+-- `boundary::given::start_of` meets its contract.
 use borrow.Author.Needs.{needs}
 use Rattle.request.specs.Request.{start-from}
-use Rattle.capi.proofs.given.start_of.Statement.{statement}
-use Rattle.capi.proofs.given.start_of.Tie as tie
+use Rattle.boundary.proofs.given.start_of.Statement.{statement}
+use Rattle.boundary.proofs.given.start_of.Tie as tie
 
 element-copy-out-t4 : tie.Need-element-copy-out-t4
 element-copy-out-t4 c = search needs

@@ -1,9 +1,9 @@
--- `capi::codes::code_refusal` meets its contract.
+-- `boundary::codes::code_refusal` meets its contract.
 use mathlib.Core.Path.{_∙_}
 use borrow.Author.Needs.{needs}
 use Rattle.calendar.specs.Refusal.{_else_}
-use Rattle.capi.proofs.codes.code_refusal.Statement.{statement}
-use Rattle.capi.proofs.codes.code_refusal.Tie as tie
+use Rattle.boundary.proofs.codes.code_refusal.Statement.{statement}
+use Rattle.boundary.proofs.codes.code_refusal.Tie as tie
 
 body-refusal-requires : tie.Need-body-refusal-requires
 body-refusal-requires c κs = search needs

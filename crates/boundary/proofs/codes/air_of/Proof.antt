@@ -1,7 +1,7 @@
--- `capi::codes::air_of` meets its contract.
+-- `boundary::codes::air_of` meets its contract.
 use borrow.Author.Tests.{eq-eqb, ne-eqb}
-use Rattle.capi.proofs.codes.air_of.Statement.{statement}
-use Rattle.capi.proofs.codes.air_of.Tie as tie
+use Rattle.boundary.proofs.codes.air_of.Statement.{statement}
+use Rattle.boundary.proofs.codes.air_of.Tie as tie
 
 returns : tie.Need-returns
 returns c = simp (eq-eqb _ _ (c .if1 .taken))

@@ -1,7 +1,7 @@
--- `capi::codes::or_next` meets its contract.
+-- `boundary::codes::or_next` meets its contract.
 use borrow.Author.Tests.{eq-eqb, ne-eqb}
-use Rattle.capi.proofs.codes.or_next.Statement.{statement}
-use Rattle.capi.proofs.codes.or_next.Tie as tie
+use Rattle.boundary.proofs.codes.or_next.Statement.{statement}
+use Rattle.boundary.proofs.codes.or_next.Tie as tie
 
 returns : tie.Need-returns
 returns c = simp (eq-eqb _ _ (c .if1 .taken))

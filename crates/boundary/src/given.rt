@@ -3,7 +3,7 @@ use request::start::Start;
 use sky_vectors::station::Point;
 ghost use mathlib.Core.Path.{_≡_};
 ghost use Rattle.request.specs.Request.{start-from};
-ghost use Rattle.capi.specs.Given.{point-from};
+ghost use Rattle.boundary.specs.Given.{point-from};
 
 pub fn start_of(numbers: &[i64; 9]) -> Start
     ensures { λ r. ⌜ r ≡ start-from (now (numbers .entry)) ⌝ }

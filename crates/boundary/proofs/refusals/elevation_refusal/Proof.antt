@@ -1,4 +1,4 @@
--- `capi::air::elevation_refusal` meets its contract.
+-- `boundary::refusals::elevation_refusal` meets its contract.
 use mathlib.Core.Path.{_∙_, _≡_}
 use lib.IntN.{pos}
 use borrow.Author.Needs.{needs}
@@ -6,8 +6,8 @@ use Rattle.number_rules.specs.Angle.{quarter-turn}
 use Rattle.numbers.specs.Whole.{between}
 use Rattle.sum_rules.specs.Instant.{minus}
 use Rattle.request.proofs.RequestLaws.{tested}
-use Rattle.capi.proofs.air.elevation_refusal.Statement.{statement}
-use Rattle.capi.proofs.air.elevation_refusal.Tie as tie
+use Rattle.boundary.proofs.refusals.elevation_refusal.Statement.{statement}
+use Rattle.boundary.proofs.refusals.elevation_refusal.Tie as tie
 
 judged : (c : tie.After-is-between) → between (minus quarter-turn) (c .before .args .elevation) (pos quarter-turn) ≡ c .is-between .result
 judged c = tested (minus quarter-turn) (c .before .args .elevation) (pos quarter-turn) (c .before .fits .elevation) (c .is-between .ensures)

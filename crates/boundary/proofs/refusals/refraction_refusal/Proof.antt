@@ -1,13 +1,13 @@
--- `capi::air::refraction_refusal` meets its contract.
+-- `boundary::refusals::refraction_refusal` meets its contract.
 use mathlib.Core.Path.{_∙_, ap}
 use borrow.Author.Needs.{needs}
 use Rattle.calendar.specs.Refusal.{_else_, first}
 use Rattle.numbers.proofs.Machine.{any}
 use Rattle.refraction.specs.Air.{air-refusals}
 use Rattle.refraction.specs.declared.air.Air.{Air}
-use Rattle.capi.specs.Codes.{elevation-refusal}
-use Rattle.capi.proofs.air.refraction_refusal.Statement.{statement}
-use Rattle.capi.proofs.air.refraction_refusal.Tie as tie
+use Rattle.boundary.specs.Codes.{elevation-refusal}
+use Rattle.boundary.proofs.refusals.refraction_refusal.Statement.{statement}
+use Rattle.boundary.proofs.refusals.refraction_refusal.Tie as tie
 
 air-of-requires : tie.Need-air-of-requires
 air-of-requires c κs = search needs

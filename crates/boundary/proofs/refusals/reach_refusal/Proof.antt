@@ -1,12 +1,12 @@
--- `capi::instants::reach_refusal` meets its contract.
+-- `boundary::refusals::reach_refusal` meets its contract.
 use mathlib.Core.Path.{_∙_, _≡_, ap, sym}
 use lib.Dec.{leb}
 use lib.IntN.{natAbs, ℤ}
 use borrow.Author.Needs.{needs}
 use Rattle.numbers.proofs.Machine.{any}
 use Rattle.sum_rules.specs.Instant.{furthest}
-use Rattle.capi.proofs.instants.reach_refusal.Statement.{statement}
-use Rattle.capi.proofs.instants.reach_refusal.Tie as tie
+use Rattle.boundary.proofs.refusals.reach_refusal.Statement.{statement}
+use Rattle.boundary.proofs.refusals.reach_refusal.Tie as tie
 
 -- the test, at the parameter
 tested : (c : tie.After-is-within-reach) → leb (natAbs (c .before .args .instant)) furthest ≡ c .is-within-reach .result

@@ -1,7 +1,7 @@
--- `capi::codes::body_refusal` meets its contract.
+-- `boundary::codes::body_refusal` meets its contract.
 use borrow.Author.Tests.{le-leb, lt-leb}
-use Rattle.capi.proofs.codes.body_refusal.Statement.{statement}
-use Rattle.capi.proofs.codes.body_refusal.Tie as tie
+use Rattle.boundary.proofs.codes.body_refusal.Statement.{statement}
+use Rattle.boundary.proofs.codes.body_refusal.Tie as tie
 
 returns : tie.Need-returns
 returns c = simp (le-leb _ _ (c .if1 .taken))
