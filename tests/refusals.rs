@@ -7,9 +7,9 @@ use std::process::ExitCode;
 const LIST: &str = "docs/REFUSALS.md";
 const HEADER: &str = "include/raddlehue.h";
 const CRATE: &str = "bindings/rust/src/refusal.rs";
-const NUMBERS: &str = "crates/numbers/specs/Refusal.antt";
-const BATCH: &str = "crates/sky/specs/Batch.antt";
-const CODES: &str = "crates/capi/specs/Codes.antt";
+const NUMBERS: &str = "crates/calendar/specs/Refusal.antt";
+const BATCH: &str = "crates/batch/specs/Batch.antt";
+const CODES: &str = "crates/boundary/specs/Codes.antt";
 
 // Where our own numbers begin; the papers' stay below.
 const OURS: u32 = 101;

@@ -1,5 +1,6 @@
 -- How large a sum, a difference and a product of whole numbers can be, on either side of zero.
-use mathlib.Core.Path.{_≡_, refl}
+use mathlib.Core.List.{[], _∷_}
+use mathlib.Core.Path.{_∙_, _≡_, ap, refl, subst, sym}
 use Prim.Native.Nat.{_*_, _+_, _≤_, suc, zero, ℕ}
 use native.Mathlib.Nat.{le-trans, mul-le-mul-left, mul-le-mul-right}
 use native.Mathlib.Omega.{arith}
@@ -7,6 +8,8 @@ use lib.Dec.{leb→le}
 use lib.IntN.{_*ℤ_, _+ℤ_, _-ℤ_, natAbs, negsuc, negℤ, pos, ℤ}
 use lib.Signed.{_≤ℤ_}
 use Rattle.arithmetic.proofs.Difference.{_⊞_, abs-parts, at-parts, ⟨_⟩}
+use Rattle.arithmetic.proofs.Integers.{solveℤ}
+use Rattle.arithmetic.proofs.Solver.{_:+_, _:-_, x0, x1}
 
 pub abs-add : (a b : ℤ) → natAbs (a +ℤ b) ≤ natAbs a + natAbs b
 abs-add a b = omega (arith, abs-parts (a +ℤ b), abs-parts a, abs-parts b, at-parts (⟨ a ⟩ ⊞ ⟨ b ⟩))
@@ -39,3 +42,8 @@ at-least {k} {z = negsuc n} h = absurd (h .le)
 pub at-most : {j k : ℕ} {z : ℤ} → pos j ≤ℤ z → z ≤ℤ pos k → natAbs z ≤ k
 at-most {j} {k} {z = pos n} h l = leb→le n k (l .le)
 at-most {j} {k} {z = negsuc n} h l = absurd (h .le)
+
+-- what is known of a sum and of one part bounds the other
+pub other-part : (x y z : ℤ) {m k : ℕ} → x +ℤ y ≡ z → natAbs z ≤ m → natAbs y ≤ k → natAbs x ≤ m + k
+other-part x y z {m} {k} e h l =
+    subst (λ (w : ℤ). natAbs w ≤ m + k) (ap (λ (w : ℤ). w -ℤ y) (sym e) ∙ solveℤ (x0 :+ x1 :- x1) x0 (x ∷ y ∷ []) tt) (sub-bound z y h l)

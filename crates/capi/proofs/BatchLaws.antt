@@ -7,9 +7,9 @@ use native.Mathlib.Omega.{arith}
 use lib.Dec.{leb}
 use lib.IntN.{ℤ}
 use borrow.Author.Tests.{ne-eqb}
-use Rattle.sky.specs.Batch.{BatchAnswer, filled, left-in}
+use Rattle.batch.specs.Batch.{BatchAnswer, filled, left-in}
 use Rattle.capi.specs.Answers.{told-of-batch}
-use Rattle.capi.specs.Codes.{body-refusal, moon}
+use Rattle.boundary.specs.Codes.{body-refusal, moon}
 
 module _ (answer : BatchAnswer) (refuses : answer .refusal ≡ 0 → ⊥) where
   pub buffer-kept : (entry : ℕ → ℤ) (offsets : List ℕ) (before : List ℤ) → before ≡ left-in answer entry offsets before

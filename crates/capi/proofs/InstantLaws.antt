@@ -7,10 +7,10 @@ use mir.Syntax.{w64}
 use mir.Val.{SFits, ofZ, toZ}
 use borrow.Author.Tests.{leb-true}
 use Rattle.numbers.proofs.Machine.{any}
-use Rattle.numbers.proofs.RefusalLaws.{passes}
+use Rattle.calendar.proofs.RefusalLaws.{passes}
 use Rattle.sum_rules.specs.Instant.{furthest}
 use Rattle.capi.specs.Answers.{written-one}
-use Rattle.capi.specs.Instants.{reach-refusal}
+use Rattle.boundary.specs.Codes.{reach-refusal}
 use Rattle.capi.proofs.WrittenLaws.{answered, refused}
 
 module _ {n : ℤ} {r : ℕ} (f : SFits w64 n) (e : r ≡ reach-refusal (toZ w64 (ofZ w64 n))) where

@@ -1,4 +1,3 @@
 pub mod BatchLaws
 pub mod InstantLaws
-pub mod MiddleSize
 pub mod WrittenLaws

@@ -5,9 +5,9 @@ use mathlib.Core.Path.{_∙_, _≡_, ap, sym}
 use Prim.Native.Nat.{ℕ}
 use lib.Dec.{eqb}
 use borrow.Author.Tests.{eq-eqb, ne-eqb}
-use Rattle.numbers.specs.Refusal.{number}
-use Rattle.numbers.specs.declared.refusal.Refusal.{Refusal}
-use Rattle.numbers.proofs.RefusalLaws.{never-none}
+use Rattle.calendar.specs.Refusal.{number}
+use Rattle.calendar.specs.declared.refusal.Refusal.{Refusal}
+use Rattle.calendar.proofs.RefusalLaws.{never-none}
 use Rattle.sky.specs.Answer.{Answer}
 use Rattle.capi.specs.Answers.{written, written-one}
 

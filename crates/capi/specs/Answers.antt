@@ -6,17 +6,16 @@ use lib.Dec.{eqb}
 use lib.Ieee.{Float}
 use lib.IntN.{pos, ℤ}
 use lib.ListN.{length}
-use Rattle.numbers.specs.Refusal.{first}
+use Rattle.calendar.specs.Refusal.{first}
 use Rattle.sum_rules.specs.declared.instant.Instant.{Instant}
-use Rattle.sky.specs.Air.{air-refusals}
 use Rattle.sky.specs.Answer.{Answer, judged, nowhere, place, shown-place}
-use Rattle.sky.specs.Batch.{BatchAnswer, azimuth-at, batch, elevation-at, left-in}
-use Rattle.sky.specs.Request.{instant, start-from, start-refusals}
+use Rattle.batch.specs.Batch.{BatchAnswer, azimuth-at, batch, elevation-at, left-in}
+use Rattle.request.specs.Request.{instant, start-from, start-refusals}
 use Rattle.sky.specs.Shown.{nothing-shown}
 use Rattle.sky.specs.declared.shown.Shown.{Shown}
 use Rattle.sky_vectors.specs.declared.place.Place.{Place}
-use Rattle.capi.specs.Codes.{air-of, body-of, body-refusal, code-refusal, elevation-refusal, kind-refusal}
-use Rattle.capi.specs.Given.{point-from}
+use Rattle.boundary.specs.Codes.{air-of, body-of, body-refusal, code-refusal}
+use Rattle.boundary.specs.Given.{point-from}
 
 -- what stands behind a reference after the call: the value, or what stood there where refused
 abbrev pub written-one : {A : Type 0} → ℕ → A → A → A
@@ -61,10 +60,6 @@ elevations-left start body point offsets azimuths elevations =
 -- index and count of a batch that is accepted or late; any other refusal writes nothing
 abbrev pub told-of-batch : BatchAnswer → List ℕ → List ℕ
 told-of-batch answer before = cond (eqb (answer .refusal) 0) (0 ∷ answer .count ∷ []) (cond (eqb (answer .refusal) 13) (answer .index ∷ 0 ∷ []) before)
-
--- an unknown air, an elevation beyond ±90 degrees, then 10 and 11
-abbrev pub refraction-refusal : ℤ → ℕ → Float → Float → ℕ
-refraction-refusal e air pressure temperature = first (kind-refusal air ∷ elevation-refusal e ∷ air-refusals (air-of air pressure temperature))
 
 -- UT and TT of a start
 abbrev pub started : List ℤ → Answer Instant

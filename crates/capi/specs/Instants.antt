@@ -1,18 +1,11 @@
 -- The exports over one instant: within reach the sums, elsewhere a refusal, and nothing is written.
 use mathlib.Core.List.{List, [], _∷_}
-use Prim.Native.Nat.{ℕ}
-use lib.Dec.{leb}
-use lib.IntN.{ℤ, pos, natAbs}
-use Rattle.numbers.specs.Refusal.{_unless_}
-use Rattle.sum_rules.specs.Instant.{furthest}
+use lib.IntN.{ℤ, pos}
 use Rattle.sum_rules.specs.Moon.{longitude, latitude, metres}
 use Rattle.sum_rules.specs.Nutation.{Δψ, Δε, obliquity}
 use Rattle.sum_rules.specs.Sun.{L, B, R}
+use Rattle.boundary.specs.Codes.{reach-refusal}
 use Rattle.capi.specs.Answers.{written-one}
-use Rattle.capi.specs.Codes.{out-of-reach}
-
-abbrev pub reach-refusal : ℤ → ℕ
-reach-refusal n = out-of-reach unless leb (natAbs n) furthest
 
 -- what stands behind the reference after the call
 abbrev pub at-instant : ℤ → List ℤ → List ℤ → List ℤ

@@ -1,13 +1,12 @@
 // UT and TT of a start, and the sums at one instant: any instant may be asked for, and one out of reach is refused.
-use super::codes::OUT_OF_REACH;
-use super::codes::number_in;
-use super::given::start_of;
-use super::lent::put_pair;
-use super::lent::put_triple;
+use boundary::codes::number_in;
+use boundary::given::start_of;
+use boundary::lent::put_pair;
+use boundary::lent::put_triple;
+use boundary::refusals::reach_refusal;
 use numbers::sine_table::table;
-use sky::request::instant_of;
-use sky::request::start_verdict;
-use sums::instant::is_within_reach;
+use request::start::instant_of;
+use request::start::start_verdict;
 use sums::instant::powers_at;
 use sums::moon::moon;
 use sums::nutation::nutation_at;
@@ -18,7 +17,8 @@ ghost use mathlib.Core.Path.{_≡_};
 ghost use lib.IntN.{pos};
 ghost use Rattle.sum_rules.specs.Sidereal.{mean};
 ghost use Rattle.capi.specs.Answers.{started, instant-values, written, written-one};
-ghost use Rattle.capi.specs.Instants.{reach-refusal, moon-values, sun-values, nutation-values, at-instant};
+ghost use Rattle.boundary.specs.Codes.{reach-refusal};
+ghost use Rattle.capi.specs.Instants.{moon-values, sun-values, nutation-values, at-instant};
 
 // UT, then TT.
 #[no_mangle]
@@ -34,16 +34,6 @@ pub extern "C" fn raddlehue_instant(start: &[i64; 9], instant: &mut [i64; 2]) ->
     let found = instant_of(given);
     put_pair(instant, found.ut, found.tt);
     0
-}
-
-fn reach_refusal(instant: i64) -> u32
-    ensures { λ r. ⌜ r ≡ reach-refusal instant ⌝ }
-{
-    if is_within_reach(instant) {
-        0
-    } else {
-        OUT_OF_REACH
-    }
 }
 
 // Before nutation: longitude and latitude in 10⁻⁸ degree, and metres from the Earth's centre.

@@ -1,9 +1,9 @@
 // The middle of two azimuths.
-use numbers::refusal::number_of;
-use sky::heading::Middle;
-use sky::heading::middle_azimuth;
+use calendar::refusal::number_of;
+use heading::middle::Middle;
+use heading::middle::middle_azimuth;
 ghost use mathlib.Core.Path.{_≡_};
-ghost use Rattle.sky.specs.Heading.{middle};
+ghost use Rattle.heading.specs.Heading.{middle};
 ghost use Rattle.capi.specs.Answers.{written-one};
 ghost use lib.IntN.{pos};
 

@@ -1,12 +1,12 @@
 // The place of a body, and the place as it is shown.
-use super::codes::air_of;
-use super::codes::body_of;
-use super::codes::code_refusal;
-use super::given::point_of;
-use super::given::start_of;
-use super::lent::put_doubles;
-use super::lent::put_pair;
-use numbers::refusal::number_of;
+use boundary::codes::air_of;
+use boundary::codes::body_of;
+use boundary::codes::code_refusal;
+use boundary::given::point_of;
+use boundary::given::start_of;
+use boundary::lent::put_doubles;
+use boundary::lent::put_pair;
+use calendar::refusal::number_of;
 use sky::answer::PlaceAnswer;
 use sky::answer::ShownAnswer;
 use sky::answer::shown_place;

@@ -4,8 +4,8 @@ use lib.IntN.{pos, ℤ}
 use lib.Ieee as Ieee
 use lib.Ieee.{Float}
 use Rattle.number_rules.specs.Angle.{full-turn}
-use Rattle.sky.specs.Air.{between-doubles}
-use Rattle.sky.specs.Double.{_+d_, _/d_, double}
+use Rattle.refraction.specs.Air.{between-doubles}
+use Rattle.refraction.specs.Double.{_+d_, _/d_, double}
 use Rattle.numbers.specs.Whole.{between}
 use Rattle.sum_rules.specs.Instant.{minus}
 

@@ -1,7 +1,7 @@
 -- Where the equator's frame is read off the horizon's: at the south pole of an Earth without size.
 use Rattle.number_rules.specs.Angle.{quarter-turn}
 use Rattle.sky_vectors.specs.Place.{from-centre, place-towards}
-use Rattle.sky_vectors.specs.Product.{sine-cosine}
+use Rattle.numbers.specs.SineCosine.{sine-cosine}
 use Rattle.sky_vectors.specs.declared.geocentric.Geocentric.{Geocentric}
 use Rattle.sky_vectors.specs.declared.orientation.Orientation.{Orientation}
 use Rattle.sky_vectors.specs.declared.place.Place.{Place}

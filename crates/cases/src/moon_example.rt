@@ -7,18 +7,18 @@ use super::steps::moment_of;
 use super::steps::steps_to;
 use numbers::angle::Angle;
 use numbers::sine_table::table;
-use sky::air::Air;
+use refraction::air::Air;
+use request::start::Start;
 use sky::answer::ShownAnswer;
 use sky::answer::shown_place;
-use sky::request::Start;
 use sky_vectors::geocentric::Body;
 use sky_vectors::station::Point;
 use sum_rules::instant::SECOND;
 use sums::moon::arguments;
 use sums::moon::moon_at;
 ghost use mathlib.Core.Path.{_≡_};
-ghost use Rattle.numbers.specs.Refusal.{first};
-ghost use Rattle.sky.specs.Request.{start-refusals, point-refusals};
+ghost use Rattle.calendar.specs.Refusal.{first};
+ghost use Rattle.request.specs.Request.{start-refusals, point-refusals};
 
 const DELTA: i64 = (664 * SECOND / 10) as i64;
 

@@ -7,10 +7,10 @@ use super::steps::from_south_pole;
 use super::steps::moment_of;
 use super::steps::steps_to;
 use numbers::sine_table::table;
-use sky::air::Air;
+use refraction::air::Air;
+use request::start::Start;
 use sky::answer::ShownAnswer;
 use sky::answer::shown_place;
-use sky::request::Start;
 use sky_vectors::geocentric::Body;
 use sky_vectors::geocentric::Geocentric;
 use sky_vectors::orientation::Orientation;
@@ -20,8 +20,8 @@ use sums::nutation::Nutation;
 use sums::sun::longitude_degrees;
 use sums::sun::sun_at;
 ghost use mathlib.Core.Path.{_≡_};
-ghost use Rattle.numbers.specs.Refusal.{first};
-ghost use Rattle.sky.specs.Request.{start-refusals, point-refusals};
+ghost use Rattle.calendar.specs.Refusal.{first};
+ghost use Rattle.request.specs.Request.{start-refusals, point-refusals};
 
 const DELTA: i64 = (67 * SECOND) as i64;
 

@@ -5,22 +5,22 @@ use native.Mathlib.Omega.{arith}
 use lib.Dec.{T, lit<}
 use lib.IntN.{_-ℤ_, pos}
 use lib.Signed.{ltZ-yes}
-use Rattle.numbers.proofs.RefusalLaws.{never-none, number-tells, one-answer}
-use Rattle.numbers.specs.Refusal.{OneAnswer, first}
+use Rattle.calendar.proofs.RefusalLaws.{never-none, number-tells, one-answer}
+use Rattle.calendar.specs.Refusal.{OneAnswer, first}
 use Rattle.sky.proofs.AnswerLaws.{judged-refusal}
-use Rattle.sky.proofs.Demand3.{within-reach}
+use Rattle.sum_rules.proofs.Accurate.{sums-near}
 use Rattle.sky.specs.Answer.{Answer}
 use Rattle.day.specs.Answer.{RiseSetNumbers, crossings, neither, rise-and-set, rise-set-answer, rise-set-numbers}
 use Rattle.day.specs.Crossing.{CrossingNumbers, crossing-numbers}
 use Rattle.day.specs.Curve.{AcceptedDay, minute-of}
 use Rattle.day.specs.Demand3.{EveryDayNear}
-use Rattle.day.specs.Request.{day-refusals, days}
+use Rattle.day.specs.Date.{day-refusals, days}
 use Rattle.day.specs.declared.answer.RiseSet.{RiseSet}
 use Rattle.day.specs.declared.answer.RiseSetAnswer.{RiseSetAnswer}
 use Rattle.day.specs.declared.answer.RiseSetAnswer.the-variants.{Refused, Seen}
 use Rattle.day.specs.declared.crossing.Crossing.{Crossing}
 use Rattle.day.specs.declared.crossing.Crossing.the-variants.{Minute, None}
-use Rattle.day.proofs.RequestLaws.{accepted-day, day-before, minute-reachable}
+use Rattle.day.proofs.DateLaws.{accepted-day, day-before, minute-reachable}
 
 -- ---- one answer and no other
 crossing-tells : (x y : Crossing) → crossing-numbers x ≡ crossing-numbers y → x ≡ y
@@ -52,8 +52,8 @@ pub every-day-near : EveryDayNear
 unfolding rise-and-set
 every-day-near date body point =
     record {
-      near = λ e m h. within-reach (minute-of date (days date) m) (minute-reachable (today e) m h);
-      near-before = λ e before. within-reach (minute-of date (days date -ℤ pos 1) 1439) (minute-reachable (day-before (today e) .accepted (ltZ-yes (subst⁻¹ T before tt))) 1439 (lit< tt));
+      near = λ e m h. sums-near (minute-of date (days date) m .tt) (minute-reachable (today e) m h .tt-near);
+      near-before = λ e before. sums-near (minute-of date (days date -ℤ pos 1) 1439 .tt) (minute-reachable (day-before (today e) .accepted (ltZ-yes (subst⁻¹ T before tt))) 1439 (lit< tt) .tt-near);
     }
   where
     passes : rise-and-set date body point .refusal ≡ 0 → first (day-refusals date point) ≡ 0

@@ -1,11 +1,11 @@
 -- The minutes of a day are 01's instants: its own at hh:mm:00.0, and that before 0 at 23:59:00.0 of the day before.
 use mathlib.Core.Path.{sym}
-use Rattle.sky.specs.Request.{instant}
+use Rattle.request.specs.Request.{instant}
 use Rattle.sum_rules.specs.Instant.{terrestrial-time, universal-time}
 use Rattle.day.specs.Claims.{MinuteBefore, MinutesAreClocks}
 use Rattle.day.specs.Curve.{minute-of}
-use Rattle.day.specs.Request.{days}
-use Rattle.day.proofs.RequestLaws.{elapsed-is}
+use Rattle.day.specs.Date.{days}
+use Rattle.day.proofs.DateLaws.{elapsed-is}
 
 pub minutes-are-clocks : MinutesAreClocks
 unfolding minute-of instant

@@ -15,12 +15,12 @@ use Rattle.sky_vectors.specs.declared.station.Point.{Point}
 use Rattle.day.specs.Claims.{EveryFirstOrNone, First, FirstOrNone, NeverTogether, Nowhere}
 use Rattle.day.specs.Crossing.{CrossingNumbers, at-minute, at-none, crosses, first-minute, has-before, is-at, is-up, up-at, up-before}
 use Rattle.day.specs.Curve.{curve, elevation-on, minutes}
-use Rattle.day.specs.Request.{days}
+use Rattle.day.specs.Date.{days}
 use Rattle.day.specs.Search.{first-where}
 use Rattle.day.specs.Worked.{crosses-in, entry}
 use Rattle.day.specs.declared.crossing.Event.{Event}
 use Rattle.day.specs.declared.crossing.Event.the-variants.{Rise, Set}
-use Rattle.day.specs.declared.request.Date.{Date}
+use Rattle.day.specs.declared.date.Date.{Date}
 use Rattle.day.proofs.CurveLaws.{below-entry}
 use Rattle.day.proofs.SearchLaws.{before, clash, is-first, same-first, there}
 

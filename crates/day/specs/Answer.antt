@@ -3,17 +3,17 @@ use mathlib.Core.Bool.{cond}
 use mathlib.Core.List.{List}
 use lib.Dec.{eqb}
 use lib.IntN.{ℤ}
-use Rattle.numbers.specs.Refusal.{first, number}
+use Rattle.calendar.specs.Refusal.{first, number}
 use Rattle.sky.specs.Answer.{Answer, judged}
 use Rattle.sky_vectors.specs.declared.geocentric.Body.{Body}
 use Rattle.sky_vectors.specs.declared.station.Point.{Point}
 use Rattle.day.specs.Crossing.{CrossingNumbers, at-none, crossing-numbers, first-minute, is-at}
-use Rattle.day.specs.Request.{day-refusals}
+use Rattle.day.specs.Date.{day-refusals}
 use Rattle.day.specs.declared.answer.RiseSet.{RiseSet}
 use Rattle.day.specs.declared.answer.RiseSetAnswer.{RiseSetAnswer}
 use Rattle.day.specs.declared.answer.RiseSetAnswer.the-variants.{Refused, Seen}
 use Rattle.day.specs.declared.crossing.Event.the-variants.{Rise, Set}
-use Rattle.day.specs.declared.request.Date.{Date}
+use Rattle.day.specs.declared.date.Date.{Date}
 
 -- rise and set, in numbers
 pub record RiseSetNumbers : Type 0 where

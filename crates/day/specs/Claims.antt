@@ -3,15 +3,15 @@ use mathlib.Core.Bool.{Bool, false, true}
 use mathlib.Core.Path.{_≡_}
 use Prim.Native.Nat.{_%_, _/_, _<_, ℕ}
 use lib.IntN.{_-ℤ_, pos}
-use Rattle.sky.specs.Request.{instant}
+use Rattle.request.specs.Request.{instant}
 use Rattle.sky_vectors.specs.declared.geocentric.Body.{Body}
 use Rattle.sky_vectors.specs.declared.station.Point.{Point}
 use Rattle.day.specs.Crossing.{at-minute, at-none, first-minute, is-at}
 use Rattle.day.specs.Curve.{minute-of, minutes}
-use Rattle.day.specs.Request.{clock, days}
+use Rattle.day.specs.Date.{clock, days}
 use Rattle.day.specs.declared.crossing.Event.{Event}
 use Rattle.day.specs.declared.crossing.Event.the-variants.{Rise, Set}
-use Rattle.day.specs.declared.request.Date.{Date}
+use Rattle.day.specs.declared.date.Date.{Date}
 
 -- ---- the minutes are 01's instants
 

@@ -8,13 +8,13 @@ use Rattle.sum_rules.specs.Instant.{first-day, minus}
 use Rattle.sky_vectors.specs.declared.geocentric.Body.{Body}
 use Rattle.sky_vectors.specs.declared.station.Point.{Point}
 use Rattle.day.specs.Curve.{elevation-on, minutes}
-use Rattle.day.specs.Request.{days}
+use Rattle.day.specs.Date.{days}
 use Rattle.day.specs.Search.{first-where}
 use Rattle.day.specs.declared.crossing.Crossing.{Crossing}
 use Rattle.day.specs.declared.crossing.Crossing.the-variants as Crosses
 use Rattle.day.specs.declared.crossing.Event.{Event}
 use Rattle.day.specs.declared.crossing.Event.the-variants.{Rise, Set}
-use Rattle.day.specs.declared.request.Date.{Date}
+use Rattle.day.specs.declared.date.Date.{Date}
 
 -- THE THRESHOLD of rise and set
 abbrev pub threshold : ℤ

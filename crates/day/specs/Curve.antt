@@ -8,8 +8,8 @@ use Rattle.sky_vectors.specs.Place.{place-at, place-from}
 use Rattle.sky_vectors.specs.declared.geocentric.Body.{Body}
 use Rattle.sky_vectors.specs.declared.station.Point.{Point}
 use Rattle.sky_vectors.specs.declared.station.Runner.{Runner}
-use Rattle.day.specs.Request.{days}
-use Rattle.day.specs.declared.request.Date.{Date}
+use Rattle.day.specs.Date.{days}
+use Rattle.day.specs.declared.date.Date.{Date}
 
 -- minutes 0 to 1439
 abbrev pub minutes : ℕ

@@ -1,4 +1,4 @@
-pub mod Request
+pub mod Date
 pub mod Curve
 pub mod Search
 pub mod Crossing

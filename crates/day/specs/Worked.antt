@@ -11,7 +11,7 @@ use Rattle.sky_vectors.specs.declared.station.Runner.{Runner}
 use Rattle.day.specs.Crossing.{crosses, is-up}
 use Rattle.day.specs.Curve.{AcceptedDay, elevation-from}
 use Rattle.day.specs.declared.crossing.Event.{Event}
-use Rattle.day.specs.declared.request.Date.{Date}
+use Rattle.day.specs.declared.date.Date.{Date}
 
 -- entry m of a curve
 abbrev pub entry : List ℤ → ℕ → ℤ

@@ -1,5 +1,5 @@
 // The minutes of a day, and the curve of the elevations at them.
-use super::request::Date;
+use super::date::Date;
 use sky_vectors::geocentric::Body;
 use sky_vectors::horizon::elevation;
 use sky_vectors::horizon::horizon_at;

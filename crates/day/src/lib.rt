@@ -2,4 +2,4 @@
 pub mod answer;
 pub mod crossing;
 pub mod curve;
-pub mod request;
+pub mod date;

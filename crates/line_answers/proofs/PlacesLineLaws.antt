@@ -15,8 +15,8 @@ use Rattle.text.specs.Line.{answer, begins, short-numbers, space}
 use Rattle.sky.specs.Answer.{Answer, place}
 use Rattle.line_answers.specs.PlacesLine.{body-answer, longest-request, no-request, place-from, place-line, places-answer, point-from}
 use Rattle.line_answers.specs.Printed.{newline}
-use Rattle.sky.specs.Request.{start-from}
-use Rattle.sky.specs.declared.air.Air.the-variants as Airs
+use Rattle.request.specs.Request.{start-from}
+use Rattle.refraction.specs.declared.air.Air.the-variants as Airs
 use Rattle.sky_vectors.specs.declared.place.Place.{Place}
 use Rattle.sky_vectors.specs.declared.geocentric.Body.{Body}
 use Rattle.sky_vectors.specs.declared.geocentric.Body.the-variants as Bodies

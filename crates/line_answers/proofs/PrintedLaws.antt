@@ -9,9 +9,9 @@ use lib.IntN.{natAbs, ℤ}
 use lib.ListN.{length, replicate}
 use borrow.Author.Tests.{ne-eqb}
 use Rattle.numbers.proofs.Machine.{Mirror}
-use Rattle.numbers.proofs.RefusalLaws.{never-none}
-use Rattle.numbers.specs.Refusal.{number}
-use Rattle.numbers.specs.declared.refusal.Refusal.{Refusal}
+use Rattle.calendar.proofs.RefusalLaws.{never-none}
+use Rattle.calendar.specs.Refusal.{number}
+use Rattle.calendar.specs.declared.refusal.Refusal.{Refusal}
 use Rattle.text.proofs.DecimalLaws.{appended-length, appended-twice, decimal-short, decimals-short}
 use Rattle.text.specs.Decimal.{Appended, decimal, decimals, text-room, written}
 use Rattle.text.specs.declared.decimal.Text.{Text}

@@ -8,8 +8,8 @@ use lib.Dec.{T}
 use lib.IntN.{pos, ℤ}
 use lib.ListN.{length, replicate}
 use Rattle.sum_rules.specs.Table.{column}
-use Rattle.numbers.proofs.RefusalLaws.{never-none, number-tells, one-answer}
-use Rattle.numbers.specs.Refusal.{OneAnswer}
+use Rattle.calendar.proofs.RefusalLaws.{never-none, number-tells, one-answer}
+use Rattle.calendar.specs.Refusal.{OneAnswer}
 use Rattle.text.specs.Decimal.{decimal}
 use Rattle.text.specs.Line.{answer, space}
 use Rattle.text.specs.RoundTrip.{printed}
@@ -18,7 +18,7 @@ use Rattle.line_answers.specs.declared.sheet.Arguments.{Arguments}
 use Rattle.line_answers.specs.declared.sheet.Row.{Row}
 use Rattle.line_answers.specs.declared.sheet.Row.the-variants as Rows
 use Rattle.line_answers.specs.Printed.{newline}
-use Rattle.sky.specs.Request.{start-from}
+use Rattle.request.specs.Request.{start-from}
 use Rattle.line_answers.specs.Sheet.{arguments-line, no-arguments, row-answer, row-from, start-row}
 
 -- zeros at the end of a row change no column

@@ -11,8 +11,8 @@ use Rattle.text.specs.Decimal.{decimals}
 use Rattle.text.specs.Line.{begins, line-numbers, short-numbers, space}
 use Rattle.sky.specs.Answer.{Answer, nowhere, place}
 use Rattle.line_answers.specs.Printed.{answer-line, newline}
-use Rattle.sky.specs.Request.{start-from}
-use Rattle.sky.specs.declared.air.Air.the-variants as Airs
+use Rattle.request.specs.Request.{start-from}
+use Rattle.refraction.specs.declared.air.Air.the-variants as Airs
 use Rattle.sky_vectors.specs.declared.place.Place.{Place}
 use Rattle.sky_vectors.specs.declared.geocentric.Body.{Body}
 use Rattle.sky_vectors.specs.declared.geocentric.Body.the-variants as Bodies

@@ -10,10 +10,10 @@ use Rattle.sum_rules.specs.Table.{column}
 use Rattle.sum_rules.specs.declared.instant.Instant.{Instant}
 use Rattle.text.specs.Line.{sheet-numbers}
 use Rattle.text.specs.RoundTrip.{printed}
-use Rattle.numbers.specs.Refusal.{first, number}
+use Rattle.calendar.specs.Refusal.{first, number}
 use Rattle.sky.specs.Answer.{Answer, judged}
-use Rattle.sky.specs.Request.{instant, start-from, start-refusals}
-use Rattle.sky.specs.declared.request.Start.{Start}
+use Rattle.request.specs.Request.{instant, start-from, start-refusals}
+use Rattle.request.specs.declared.start.Start.{Start}
 use Rattle.line_answers.specs.Printed.{answer-line, newline}
 use Rattle.line_answers.specs.declared.sheet.Arguments.{Arguments}
 use Rattle.line_answers.specs.declared.sheet.Row.{Row}

@@ -1,8 +1,8 @@
 // One line of the program `places`: its answer, and the answer as it is printed.
 use super::refused::refusal_text;
 use super::sheet::start_from;
-use numbers::refusal::Refusal;
-use sky::air::Air;
+use calendar::refusal::Refusal;
+use refraction::air::Air;
 use sky::answer::PlaceAnswer;
 use sky::answer::place;
 use sky_vectors::geocentric::Body;
@@ -19,7 +19,7 @@ ghost use mathlib.Core.Path.{_≡_};
 ghost use Prim.Native.Nat.{_≤_};
 ghost use lib.ListN.{length, drop};
 ghost use Rattle.text.specs.Decimal.{text-room, written};
-ghost use Rattle.numbers.specs.Refusal.{OneAnswer};
+ghost use Rattle.calendar.specs.Refusal.{OneAnswer};
 ghost use Rattle.sky.specs.Answer.{place-answer};
 ghost use Rattle.line_answers.specs.PlacesLine.{point-from, body-answer, places-answer, place-line, places-line};
 

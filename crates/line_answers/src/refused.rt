@@ -1,6 +1,6 @@
 // What is printed for a line that is refused.
-use numbers::refusal::Refusal;
-use numbers::refusal::number_of;
+use calendar::refusal::Refusal;
+use calendar::refusal::number_of;
 use text::decimal::Text;
 use text::decimal::appended_byte;
 use text::decimal::appended_bytes;
@@ -9,7 +9,7 @@ use text::decimal::empty;
 ghost use mathlib.Core.Path.{_≡_};
 ghost use Prim.Native.Nat.{_≤_};
 ghost use Rattle.text.specs.Decimal.{text-room, written};
-ghost use Rattle.numbers.specs.Refusal.{number};
+ghost use Rattle.calendar.specs.Refusal.{number};
 ghost use Rattle.line_answers.specs.Printed.{refusal-line};
 
 pub fn refusal_text(refusal: Refusal) -> Text

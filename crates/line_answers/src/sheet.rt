@@ -1,10 +1,10 @@
 // One line of the argument sheet: its answer, and the answer as it is printed.
 use super::refused::refusal_text;
-use numbers::refusal::Refusal;
-use numbers::refusal::Verdict;
-use sky::request::Start;
-use sky::request::instant_of;
-use sky::request::start_verdict;
+use calendar::refusal::Refusal;
+use calendar::refusal::Verdict;
+use request::start::Start;
+use request::start::instant_of;
+use request::start::start_verdict;
 use sum_rules::instant::Instant;
 use sums::instant::powers_at;
 use sums::sidereal::mean_at;
@@ -16,9 +16,9 @@ use text::line::sheet_numbers;
 ghost use mathlib.Core.Path.{_≡_};
 ghost use Prim.Native.Nat.{_≤_};
 ghost use Rattle.text.specs.Decimal.{text-room, written};
-ghost use Rattle.numbers.specs.Refusal.{OneAnswer};
+ghost use Rattle.calendar.specs.Refusal.{OneAnswer};
 ghost use Rattle.sky_vectors.specs.SkyRange.{Reachable};
-ghost use Rattle.sky.specs.Request.{start-from};
+ghost use Rattle.request.specs.Request.{start-from};
 ghost use Rattle.line_answers.specs.Sheet.{arguments, row-answer, start-row, sheet-row, arguments-line, sheet-line};
 
 // TT, and L' and the mean sidereal time in 10⁻⁸ degree.

@@ -1,8 +1,6 @@
 pub mod Machine
+pub mod SineCosineLaws
+pub mod SignLaws
 pub mod WideProduct
 pub mod AngleLaws
 pub mod RootLaws
-pub mod ArctangentLaws
-pub mod LimbLaws
-pub mod RefusalLaws
-pub mod DayCountLaws

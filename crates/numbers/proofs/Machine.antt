@@ -137,6 +137,10 @@ passed {r} f e = toZ-ofZ w64 r (record { sfits = f }) ∙ e
 abbrev pub told : {r v : ℤ} {m : ℕ} → r ≡ v → natAbs v ≤ m → T (ltb m (2 ^ 63)) → Mirror
 told {r} {v} {m} e h t = gave {r = r} {v = v} {m = m} (subst (SFits w64) (sym e) (abs-fits v h t) .sfits) e h
 
+-- a field of a struct
+abbrev pub field : (x : ℤ) {m : ℕ} → natAbs x ≤ m → T (ltb m (2 ^ 63)) → Mirror
+field x {m} h t = told {r = x} {v = x} {m = m} refl h t
+
 -- a floor that a call gave: `floor-gave x d (c .floor-div .ok) (c .floor-div .ensures)`
 abbrev pub floor-gave : {r : ℤ} (x : Mirror) (d : ℕ) → mag r < 2 ^ 63 → r ≡ ⌊ x .machine ÷ d ⌋ → Mirror
 floor-gave {r} x d f e =

@@ -1,17 +1,17 @@
 -- Long division of c n by d, by the digits of c to base 2¹⁶.
 use mathlib.Core.Bool.{Bool, _&&_}
 use mathlib.Core.List.{[], _∷_}
-use mathlib.Core.Path.{_∙_, _≡_, ap, subst, sym}
-use Prim.Native.Nat.{_*_, _+_, _/_, _<_, _^_, _≤_, ℕ}
+use mathlib.Core.Path.{_∙_, _≡_, ap, sym}
+use Prim.Native.Nat.{_*_, _+_, _/_, _<_, _^_, ℕ}
 use native.Mathlib.Nat.{le-trans}
 use lib.Dec.{T, leb, leb→le, ltb, ltb→lt}
-use lib.IntN.{_*ℤ_, _+ℤ_, _-ℤ_, natAbs, pos, ℤ}
+use lib.IntN.{_*ℤ_, _+ℤ_, _-ℤ_, pos, ℤ}
 use lib.Signed.{mag}
 use mir.Facts.{and-yes}
 use Rattle.arithmetic.specs.Floor.{_modulo_, ⌊_÷_⌋}
 use Rattle.arithmetic.proofs.FloorLaws.{floor-most, next-digit, next-modulo}
 use Rattle.arithmetic.proofs.Integers.{solveℤ}
-use Rattle.arithmetic.proofs.Sizes.{mul-bound, sub-bound}
+use Rattle.arithmetic.proofs.Sizes.{mul-bound}
 use Rattle.arithmetic.proofs.Solver.{_:*_, _:+_, _:-_, x0, x1, x2, x3}
 use Rattle.numbers.specs.Whole.{MulDiv}
 use Rattle.numbers.proofs.Machine.{Mirror, _⊗_, floor-gave}
@@ -57,11 +57,6 @@ module _ (c n : ℤ) (d : ℕ) (p : 0 < d) where
       (ap (λ (z : ℤ). ⌊ z ÷ d ⌋) (digits c upper)
       ∙ next-digit (upper *ℤ n) (low *ℤ n) base p
       ∙ ap (λ (m : ℕ). ⌊ upper *ℤ n ÷ d ⌋ *ℤ pos base +ℤ ⌊ pos m *ℤ pos base +ℤ low *ℤ n ÷ d ⌋) upper-modulo)
-
--- what is known of a sum and of one part bounds the other
-pub other-part : (x y z : ℤ) {m k : ℕ} → x +ℤ y ≡ z → natAbs z ≤ m → natAbs y ≤ k → natAbs x ≤ m + k
-other-part x y z {m} {k} e h l =
-    subst (λ (w : ℤ). natAbs w ≤ m + k) (ap (λ (w : ℤ). w -ℤ y) (sym e) ∙ solveℤ (x0 :+ x1 :- x1) x0 (x ∷ y ∷ []) tt) (sub-bound z y h l)
 
 -- ---- for callers
 abbrev pub in-range : ℕ → ℕ → ℕ → Bool

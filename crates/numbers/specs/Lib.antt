@@ -1,6 +1,3 @@
 pub mod Whole
-pub mod Arctangent
-pub mod Limbs
 pub mod Root
-pub mod Refusal
-pub mod DayCount
+pub mod SineCosine

@@ -4,8 +4,8 @@ use mathlib.Core.Path.{_∙_, _≡_, ap, refl, sym}
 use Prim.Native.Nat.{ℕ}
 use lib.Dec.{eqb}
 use borrow.Author.Tests.{eq-eqb, eqb-true, ne-eqb}
-use Rattle.numbers.specs.Refusal.{OneAnswer}
-use Rattle.numbers.proofs.RefusalLaws.{never-none, number-tells, one-answer}
+use Rattle.calendar.specs.Refusal.{OneAnswer}
+use Rattle.calendar.proofs.RefusalLaws.{never-none, number-tells, one-answer}
 use Rattle.sky_vectors.specs.declared.place.Place.{Place}
 use Rattle.sky.specs.Answer.{Answer, judged, place-answer, shown-answer}
 use Rattle.sky.specs.declared.answer.PlaceAnswer.{PlaceAnswer}

@@ -1,13 +1,13 @@
 -- Every case by hand of 01 holds, in one statement over the list.
 use mathlib.Core.List.{List, [], _∷_, _++_, map}
-use mathlib.Core.Path.{refl}
 use Rattle.arithmetic.specs.Each.{Each, more, none}
+use Rattle.heading.specs.Cases as Middles
+use Rattle.heading.proofs.CasesHold as MiddlesHold
 use Rattle.number_rules.specs.Cases as Numbers
 use Rattle.number_rules.proofs.CasesHold as NumbersHold
 use Rattle.sum_rules.specs.Cases as Sums
 use Rattle.sum_rules.proofs.CasesHold as SumsHold
-use Rattle.sky.specs.Cases.{Case, CasesHold, Holds, middles, of-numbers, of-sums}
-use Rattle.sky.specs.Heading.{clockwise, is-reduced, middle, middle-of}
+use Rattle.sky.specs.Cases.{Case, CasesHold, Holds, of-middles, of-numbers, of-sums}
 
 joined : (xs ys : List Case) → Each Holds xs → Each Holds ys → Each Holds (xs ++ ys)
 joined [] ys none k = k
@@ -21,11 +21,11 @@ from-sums : (cs : List Sums.Case) → Each Sums.Holds cs → Each Holds (map of-
 from-sums [] none = none
 from-sums (c ∷ cs) (more h hs) = more h (from-sums cs hs)
 
-middles-hold : Each Holds middles
-unfolding middle middle-of is-reduced clockwise
-middles-hold = more refl (more refl (more refl none))
+from-middles : (cs : List Middles.Case) → Each Middles.Holds cs → Each Holds (map of-middles cs)
+from-middles [] none = none
+from-middles (c ∷ cs) (more h hs) = more h (from-middles cs hs)
 
 pub cases-hold : CasesHold
 cases-hold =
-    joined (map of-numbers Numbers.cases) (map of-sums Sums.cases ++ middles) (from-numbers Numbers.cases NumbersHold.cases-hold)
-    (joined (map of-sums Sums.cases) middles (from-sums Sums.cases SumsHold.cases-hold) middles-hold)
+    joined (map of-numbers Numbers.cases) (map of-sums Sums.cases ++ map of-middles Middles.cases) (from-numbers Numbers.cases NumbersHold.cases-hold)
+    (joined (map of-sums Sums.cases) (map of-middles Middles.cases) (from-sums Sums.cases SumsHold.cases-hold) (from-middles Middles.cases MiddlesHold.cases-hold))

@@ -1,11 +1,3 @@
-pub mod RequestLaws
 pub mod AnswerLaws
-pub mod BatchLaws
-pub mod HeadingLaws
-pub mod DoubleMirror
-pub mod DoubleLaws
-pub mod RefractionLaws
-pub mod ZeroPressure
-pub mod FiniteRefraction
 pub mod Demand3
 pub mod CasesHold

@@ -4,12 +4,12 @@ use mathlib.Core.List.{List, _++_}
 use Prim.Native.Nat.{ℕ}
 use lib.Dec.{eqb}
 use lib.IntN.{pos}
-use Rattle.sky.specs.Air.{air-refusals}
+use Rattle.refraction.specs.Air.{air-refusals}
 use Rattle.sky_vectors.specs.Place.{place-at}
-use Rattle.numbers.specs.Refusal.{first, number}
-use Rattle.sky.specs.Request.{instant, point-refusals, start-refusals}
+use Rattle.calendar.specs.Refusal.{first, number}
+use Rattle.request.specs.Request.{instant, point-refusals, start-refusals}
 use Rattle.sky.specs.Shown.{nothing-shown, shown}
-use Rattle.sky.specs.declared.air.Air.{Air}
+use Rattle.refraction.specs.declared.air.Air.{Air}
 use Rattle.sky.specs.declared.answer.PlaceAnswer.{PlaceAnswer}
 use Rattle.sky.specs.declared.answer.PlaceAnswer.the-variants as Places
 use Rattle.sky.specs.declared.answer.ShownAnswer.{ShownAnswer}
@@ -17,7 +17,7 @@ use Rattle.sky.specs.declared.answer.ShownAnswer.the-variants as Shows
 use Rattle.sky_vectors.specs.declared.place.Place.{Place}
 use Rattle.sky_vectors.specs.declared.geocentric.Body.{Body}
 use Rattle.sky_vectors.specs.declared.station.Point.{Point}
-use Rattle.sky.specs.declared.request.Start.{Start}
+use Rattle.request.specs.declared.start.Start.{Start}
 use Rattle.sky.specs.declared.shown.Shown.{Shown}
 
 -- an answer in 01's numbers: the refusal, 0 where there is none, and what is answered, zeros where refused

@@ -1,10 +1,4 @@
-pub mod Request
-pub mod Double
-pub mod Air
-pub mod Refraction
 pub mod Shown
 pub mod Answer
-pub mod Batch
-pub mod Heading
 pub mod Demand3
 pub mod Cases

@@ -1,11 +1,9 @@
 -- The shown place (01, "Refraction").
-use Prim.Native.Nat.{_≤_}
-use lib.IntN.{natAbs, pos, ℤ}
+use lib.IntN.{pos, ℤ}
 use lib.Ieee.{Float}
-use Rattle.number_rules.specs.Angle.{full-turn, quarter-turn}
-use Rattle.sky.specs.Double.{_+d_, _/d_, double, zero-degrees}
-use Rattle.sky.specs.Refraction.{refraction}
-use Rattle.sky.specs.declared.air.Air.{Air}
+use Rattle.refraction.specs.Double.{_+d_, _/d_, double, zero-degrees}
+use Rattle.refraction.specs.Refraction.{refraction}
+use Rattle.refraction.specs.declared.air.Air.{Air}
 use Rattle.sky_vectors.specs.declared.place.Place.{Place}
 use Rattle.sky.specs.declared.shown.Shown.{Shown}
 

@@ -1,23 +1,23 @@
 // The place of a body, and the place as it is shown: the answer to any request, or the one refusal.
-use super::air::Air;
-use super::air::air_verdict;
-use super::request::Start;
-use super::request::instant_of;
-use super::request::point_verdict;
-use super::request::start_verdict;
 use super::shown::Shown;
 use super::shown::shown_at;
-use numbers::refusal::Refusal;
-use numbers::refusal::Verdict;
-use numbers::refusal::or_else;
+use calendar::refusal::Refusal;
+use calendar::refusal::Verdict;
+use calendar::refusal::or_else;
 use numbers::sine_table::table;
+use refraction::air::Air;
+use refraction::air::air_verdict;
+use request::point::point_verdict;
+use request::start::Start;
+use request::start::instant_of;
+use request::start::start_verdict;
 use sky_vectors::geocentric::Body;
 use sky_vectors::place::Place;
 use sky_vectors::place::place_at;
 use sky_vectors::station::Point;
 ghost use mathlib.Core.Path.{_≡_};
 ghost use Rattle.number_rules.specs.SineTable.{sines};
-ghost use Rattle.numbers.specs.Refusal.{OneAnswer, first, verdict-number};
+ghost use Rattle.calendar.specs.Refusal.{OneAnswer, first, verdict-number};
 ghost use Rattle.sky.specs.Answer.{place-answer, shown-answer, request-refusals, place, shown-place};
 ghost use Rattle.sky.specs.Demand3.{PlaceNear};
 

@@ -1,8 +1,3 @@
-// The sky: a body's place from a point on Earth.
-pub mod air;
+// The sky: a body's place from a point on Earth, and as it is shown.
 pub mod answer;
-pub mod batch;
-pub mod heading;
-pub mod refraction;
-pub mod request;
 pub mod shown;

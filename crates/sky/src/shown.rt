@@ -1,6 +1,6 @@
 // The place as it is shown, in degrees.
-use super::air::Air;
-use super::refraction::refraction;
+use refraction::air::Air;
+use refraction::formula::refraction;
 use sky_vectors::place::Place;
 ghost use mathlib.Core.Path.{_≡_};
 ghost use Prim.Native.Nat.{_≤_};

@@ -9,7 +9,7 @@ use lib.Signed.{_≤ℤ_, ltZ}
 use Rattle.numbers.proofs.Machine.{lit, not-less}
 use Rattle.number_rules.specs.Angle.{quarter-turn}
 use Rattle.numbers.specs.declared.sine.SineCosine.{SineCosine}
-use Rattle.numbers.proofs.ArctangentLaws.{arctangent-below}
+use Rattle.arctangent.proofs.ArctangentLaws.{arctangent-below}
 use Rattle.sky_vectors.specs.Horizon.{azimuth, clamped, elevation, horizon, level, lowered, slope}
 use Rattle.sky_vectors.specs.Place.{EveryPlaceInTurns, InTurns, direction, place-at, place-from, place-towards}
 use Rattle.sky_vectors.specs.Station.{runner}

@@ -11,11 +11,11 @@ use Rattle.arithmetic.specs.Floor.{⌊_÷_⌋}
 use Rattle.arithmetic.proofs.FloorLaws.{floor-most}
 use Rattle.arithmetic.proofs.Sizes.{add-bound, mul-bound, sub-bound}
 use Rattle.numbers.specs.declared.sine.SineCosine.{SineCosine}
-use Rattle.numbers.proofs.Machine.{told}
-use Rattle.sky_vectors.proofs.SkyMirror.{field}
+use Rattle.numbers.proofs.Machine.{field, told}
 use Rattle.sky_vectors.specs.Product.{_·_}
 use Rattle.sky_vectors.specs.Rotation.{rotated}
-use Rattle.sky_vectors.specs.SkyRange.{OneAngle, vector-limit}
+use Rattle.numbers.specs.SineCosine.{OneAngle}
+use Rattle.sky_vectors.specs.SkyRange.{vector-limit}
 use Rattle.sky_vectors.specs.Vector.{equatorial}
 use Rattle.sky_vectors.specs.declared.rotation.Pair.{Pair}
 use Rattle.sky_vectors.specs.declared.vector.Vector.{Vector}

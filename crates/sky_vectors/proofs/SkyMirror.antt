@@ -1,4 +1,4 @@
--- A field of a struct as a `Mirror`, and what the sky's calls ask and give in mirrors.
+-- The fields of a vector as mirrors, and what the sky's calls ask and give in mirrors.
 use mathlib.Core.Bool.{Bool, cond, false, true}
 use mathlib.Core.Path.{_∙_, _≡_, ap, refl}
 use Prim.Native.Nat.{_*_, _+_, _^_, _≤_, ℕ}
@@ -12,22 +12,12 @@ use mir.Val.{Fits, SFits, toZ}
 use mir.ValLaws.{toZ-pos}
 use Rattle.arithmetic.proofs.Sizes.{mul-bound}
 use Rattle.number_rules.specs.Angle.{full-turn}
-use Rattle.numbers.specs.Arctangent.{arctangent}
-use Rattle.numbers.specs.declared.sine.SineCosine.{SineCosine}
-use Rattle.numbers.proofs.ArctangentLaws.{arctangent-below}
-use Rattle.numbers.proofs.Machine.{Mirror, nat-fits, told}
+use Rattle.arctangent.specs.Arctangent.{arctangent}
+use Rattle.arctangent.proofs.ArctangentLaws.{arctangent-below}
+use Rattle.numbers.proofs.Machine.{Mirror, field, nat-fits}
 use Rattle.sky_vectors.specs.Horizon.{elevation-of-zeros, slope}
-use Rattle.sky_vectors.specs.SkyRange.{OneAngle, SmallVector}
+use Rattle.sky_vectors.specs.SkyRange.{SmallVector}
 use Rattle.sky_vectors.specs.declared.vector.Vector.{Vector}
-
-abbrev pub field : (x : ℤ) {m : ℕ} → natAbs x ≤ m → T (ltb m (2 ^ 63)) → Mirror
-field x {m} h t = told {r = x} {v = x} {m = m} refl h t
-
-abbrev pub sine-in : {t : SineCosine} → OneAngle t → Mirror
-sine-in {t} u = field (t .sine) (u .sine-size) tt
-
-abbrev pub cosine-in : {t : SineCosine} → OneAngle t → Mirror
-cosine-in {t} u = field (t .cosine) (u .cosine-size) tt
 
 module _ {m : ℕ} {v : Vector} (w : SmallVector m v) (t : T (ltb m (2 ^ 63))) where
   abbrev pub x-in : Mirror

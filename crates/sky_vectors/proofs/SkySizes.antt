@@ -1,6 +1,6 @@
 -- How large the numbers grow, from the unit vector to the horizon: each rotation lets a bound grow to 1.423 times itself (`RotationLaws`), and the
 -- parallax adds little.
-use mathlib.Core.Path.{_≡_, subst, subst⁻¹}
+use mathlib.Core.Path.{subst}
 use Prim.Native.Nat.{_≤_, ℕ}
 use native.Mathlib.Nat.{le-refl, le-trans}
 use lib.Dec.{T, leb, leb→le, lit≤}
@@ -9,7 +9,8 @@ use Rattle.arithmetic.specs.Floor.{⌊_÷_⌋}
 use Rattle.arithmetic.proofs.Sizes.{add-bound, mul-bound, sub-bound}
 use Rattle.number_rules.specs.Sine.{cosine, sine}
 use Rattle.numbers.specs.declared.sine.SineCosine.{SineCosine}
-use Rattle.number_rules.proofs.SineSize.{cosine-most, pair-most, sine-most}
+use Rattle.number_rules.proofs.SineSize.{cosine-most, sine-most}
+use Rattle.numbers.proofs.SineCosineLaws.{one-angle}
 use Rattle.sky_vectors.proofs.RotationLaws.{across-most, along-most, equatorial-z, floored-most, product-most}
 use Rattle.sky_vectors.proofs.Parallax.{parallax-small}
 use Rattle.sky_vectors.specs.Geocentric.{geocentric}
@@ -17,9 +18,10 @@ use Rattle.sky_vectors.specs.Horizon.{horizon}
 use Rattle.sky_vectors.specs.Observer.{flattened, observer, polar, radius, shifted}
 use Rattle.sky_vectors.specs.Orientation.{orientation}
 use Rattle.sky_vectors.specs.Place.{direction, from-centre, from-surface}
-use Rattle.sky_vectors.specs.Product.{_·_, sine-cosine}
+use Rattle.numbers.specs.SineCosine.{OneAngle}
+use Rattle.sky_vectors.specs.Product.{_·_}
 use Rattle.sky_vectors.specs.Rotation.{rotated}
-use Rattle.sky_vectors.specs.SkyRange.{OnEarth, OneAngle, Reachable, SmallHorizon, SmallObserver, SmallVector, Standing, direction-limit, highest-height, parallax-limit}
+use Rattle.sky_vectors.specs.SkyRange.{OnEarth, Reachable, SmallHorizon, SmallObserver, SmallVector, Standing, direction-limit, highest-height, parallax-limit}
 use Rattle.sky_vectors.specs.Station.{runner}
 use Rattle.sky_vectors.specs.Vector.{equatorial, meridian, unit-vector}
 use Rattle.sky_vectors.specs.declared.geocentric.Body.{Body}
@@ -30,18 +32,6 @@ use Rattle.sky_vectors.specs.declared.station.Point.{Point}
 use Rattle.sky_vectors.specs.declared.station.Runner.{Runner}
 use Rattle.sky_vectors.specs.declared.vector.Vector.{Vector}
 use Rattle.sum_rules.specs.declared.instant.Instant.{Instant}
-
-pub one-angle : (x : ℤ) → OneAngle (sine-cosine x)
-unfolding sine-cosine
-one-angle x = record { sine-size = sine-most x; cosine-size = cosine-most x; together = pair-most x }
-
--- what a call of `sine_cosine_in` gave
-pub gave-sine-cosine : (x : ℤ) {r : SineCosine} → (r .sine ≡ sine x) × (r .cosine ≡ cosine x) → r ≡ sine-cosine x
-unfolding sine-cosine
-gave-sine-cosine x e = λ i. record { sine = e .0 i; cosine = e .1 i }
-
-pub gave-one-angle : (x : ℤ) {r : SineCosine} → (r .sine ≡ sine x) × (r .cosine ≡ cosine x) → OneAngle r
-gave-one-angle x e = subst⁻¹ OneAngle (gave-sine-cosine x e) (one-angle x)
 
 -- ---- the chain
 pub unit-small : {l t : SineCosine} → OneAngle l → OneAngle t → SmallVector 1_001_000_000 (unit-vector l t)

@@ -5,7 +5,7 @@ use lib.Dec.{eqb}
 use lib.IntN.{_*ℤ_, _+ℤ_, _-ℤ_, natAbs, pos, ℤ}
 use lib.Signed.{leZ, ltZ}
 use Rattle.number_rules.specs.Angle.{full-turn, half-turn, quarter-turn}
-use Rattle.numbers.specs.Arctangent.{arctangent}
+use Rattle.arctangent.specs.Arctangent.{arctangent}
 use Rattle.numbers.specs.Root.{root}
 use Rattle.numbers.specs.declared.sine.SineCosine.{SineCosine}
 use Rattle.sum_rules.specs.Instant.{minus}

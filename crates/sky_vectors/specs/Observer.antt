@@ -2,7 +2,7 @@
 use Prim.Native.Nat.{ℕ}
 use lib.IntN.{_*ℤ_, _+ℤ_, _-ℤ_, pos, ℤ}
 use Rattle.arithmetic.specs.Floor.{⌊_÷_⌋}
-use Rattle.numbers.specs.Arctangent.{arctangent}
+use Rattle.arctangent.specs.Arctangent.{arctangent}
 use Rattle.number_rules.specs.Sine.{cosine, sine}
 use Rattle.numbers.specs.declared.sine.SineCosine.{SineCosine}
 use Rattle.sky_vectors.specs.Product.{_·_}

@@ -9,7 +9,7 @@ use Rattle.sky_vectors.specs.Geocentric.{geocentric}
 use Rattle.sky_vectors.specs.Horizon.{azimuth, elevation, horizon}
 use Rattle.sky_vectors.specs.Observer.{shifted}
 use Rattle.sky_vectors.specs.Orientation.{orientation}
-use Rattle.sky_vectors.specs.Product.{sine-cosine}
+use Rattle.numbers.specs.SineCosine.{sine-cosine}
 use Rattle.sky_vectors.specs.Station.{runner}
 use Rattle.sky_vectors.specs.Vector.{equatorial, meridian, unit-vector}
 use Rattle.sky_vectors.specs.declared.geocentric.Body.{Body}

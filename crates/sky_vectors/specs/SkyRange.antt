@@ -1,8 +1,8 @@
--- What keeps the sky's numbers within 64 bits: |sin| + |cos| of one angle, a parallax of at most 2·10⁷, heights within 9,000 metres of the sea.
-use Prim.Native.Nat.{_+_, _≤_, ℕ}
+-- What keeps the sky's numbers within 64 bits: a parallax of at most 2·10⁷, heights within 9,000 metres of the sea.
+use Prim.Native.Nat.{_≤_, ℕ}
 use lib.IntN.{natAbs, ℤ}
 use Rattle.number_rules.specs.Angle.{half-turn}
-use Rattle.numbers.specs.declared.sine.SineCosine.{SineCosine}
+use Rattle.numbers.specs.SineCosine.{OneAngle}
 use Rattle.sky_vectors.specs.declared.horizon.Horizon.{Horizon}
 use Rattle.sum_rules.specs.Instant.{furthest, minus}
 use Rattle.sum_rules.specs.declared.instant.Instant.{Instant}
@@ -52,12 +52,6 @@ vector-limit = 2_900_000_000
 -- the coordinates of a direction after parallax
 abbrev pub direction-limit : ℕ
 direction-limit = 2_049_000_000
-
--- what any sine and cosine of one angle keep to
-pub record OneAngle (angle : SineCosine) : Type 0 where
-  pub sine-size : natAbs (angle .sine) ≤ 1_000_000_001
-  pub cosine-size : natAbs (angle .cosine) ≤ 1_000_000_001
-  pub together : natAbs (angle .sine) + natAbs (angle .cosine) ≤ 1_423_000_000
 
 pub record SmallVector (limit : ℕ) (vector : Vector) : Type 0 where
   pub x-size : natAbs (vector .x) ≤ limit

@@ -1,7 +1,7 @@
 -- Where a runner stands (01, "From the centre to the runner").
 use lib.IntN.{_*ℤ_, pos}
 use Rattle.sky_vectors.specs.Observer.{observer}
-use Rattle.sky_vectors.specs.Product.{sine-cosine}
+use Rattle.numbers.specs.SineCosine.{sine-cosine}
 use Rattle.sky_vectors.specs.declared.station.Point.{Point}
 use Rattle.sky_vectors.specs.declared.station.Runner.{Runner}
 

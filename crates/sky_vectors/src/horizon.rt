@@ -1,8 +1,8 @@
 // Up, north and east, and the azimuth and the elevation that they make.
 use super::rotation::rotated;
 use super::vector::Vector;
+use arctangent::direction::arctangent;
 use numbers::angle::Angle;
-use numbers::arctangent::arctangent;
 use numbers::root::root;
 use numbers::sine::SineCosine;
 ghost use mathlib.Core.Path.{_≡_};
@@ -10,7 +10,8 @@ ghost use Prim.Native.Nat.{_≤_};
 ghost use lib.IntN.{natAbs};
 ghost use Rattle.number_rules.specs.Angle.{full-turn};
 ghost use Rattle.sky_vectors.specs.Horizon.{horizon, azimuth, level, slope, lowered, clamped, elevation};
-ghost use Rattle.sky_vectors.specs.SkyRange.{OneAngle, SmallVector, SmallHorizon, vector-limit};
+ghost use Rattle.numbers.specs.SineCosine.{OneAngle};
+ghost use Rattle.sky_vectors.specs.SkyRange.{SmallVector, SmallHorizon, vector-limit};
 
 // What up and level answer where both are zero.
 const ELEVATION_OF_ZEROS: i64 = 0;

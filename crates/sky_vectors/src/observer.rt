@@ -1,6 +1,6 @@
 // Where the runner stands on the flattened Earth.
 use super::vector::Vector;
-use numbers::arctangent::arctangent;
+use arctangent::direction::arctangent;
 use numbers::sine::SineCosine;
 use numbers::sine::sine_cosine_in;
 use numbers::whole::floor_div;
@@ -9,7 +9,8 @@ ghost use Prim.Native.Nat.{_≤_};
 ghost use lib.IntN.{natAbs};
 ghost use Rattle.number_rules.specs.SineTable.{sines};
 ghost use Rattle.sky_vectors.specs.Observer.{observer, shifted};
-ghost use Rattle.sky_vectors.specs.SkyRange.{OneAngle, SmallVector, SmallObserver, highest-height, parallax-limit, vector-limit};
+ghost use Rattle.numbers.specs.SineCosine.{OneAngle};
+ghost use Rattle.sky_vectors.specs.SkyRange.{SmallVector, SmallObserver, highest-height, parallax-limit, vector-limit};
 
 // The Earth's radius at the equator, in metres.
 pub const RADIUS: u64 = 6_378_140;

@@ -26,7 +26,8 @@ ghost use Prim.Native.Nat.{_≤_};
 ghost use lib.IntN.{natAbs};
 ghost use Rattle.number_rules.specs.SineTable.{sines};
 ghost use Rattle.sky_vectors.specs.Place.{from-centre, from-surface, direction, place-towards, place-from, place-at};
-ghost use Rattle.sky_vectors.specs.SkyRange.{OneAngle, SmallVector, SmallObserver, Standing, OnEarth, Reachable, parallax-limit, direction-limit};
+ghost use Rattle.numbers.specs.SineCosine.{OneAngle};
+ghost use Rattle.sky_vectors.specs.SkyRange.{SmallVector, SmallObserver, Standing, OnEarth, Reachable, parallax-limit, direction-limit};
 
 pub struct Place {
     pub azimuth: i64,

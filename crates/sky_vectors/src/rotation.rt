@@ -5,7 +5,8 @@ ghost use mathlib.Core.Path.{_≡_};
 ghost use Prim.Native.Nat.{_≤_};
 ghost use lib.IntN.{natAbs};
 ghost use Rattle.sky_vectors.specs.Rotation.{rotated};
-ghost use Rattle.sky_vectors.specs.SkyRange.{OneAngle, vector-limit};
+ghost use Rattle.numbers.specs.SineCosine.{OneAngle};
+ghost use Rattle.sky_vectors.specs.SkyRange.{vector-limit};
 
 // The parts along the turned axis and across it.
 pub struct Pair {

@@ -4,7 +4,8 @@ use numbers::sine::SineCosine;
 use numbers::whole::floor_div;
 ghost use mathlib.Core.Path.{_≡_};
 ghost use Rattle.sky_vectors.specs.Vector.{unit-vector, equatorial, meridian};
-ghost use Rattle.sky_vectors.specs.SkyRange.{OneAngle, SmallVector, vector-limit};
+ghost use Rattle.numbers.specs.SineCosine.{OneAngle};
+ghost use Rattle.sky_vectors.specs.SkyRange.{SmallVector, vector-limit};
 
 pub struct Vector {
     pub x: i64,

@@ -4,7 +4,7 @@ use lib.IntN.{natAbs, ℤ}
 use Rattle.exact.specs.Fraction.{Within, _*q_, _+q_, _over_, _≤q_, inv, nat, negq, nn, whole}
 use Rattle.exact.proofs.Floors.{nat-le}
 use Rattle.exact.proofs.Order.{nn-inv, within-le, within-mul, within-self}
-use Rattle.sum_rules.specs.Accuracy.{MoonNear, SunNear}
+use Rattle.sum_rules.specs.Accuracy.{MoonNear, SumsNear, SunNear}
 use Rattle.sum_rules.specs.ExactSums.{centuries}
 use Rattle.sum_rules.specs.Instant.{century, furthest}
 use Rattle.sum_rules.proofs.FloorsNear.{size-within}
@@ -24,3 +24,6 @@ moon-near n h = moon-within n (in-reach n h)
 
 pub sun-near : (n : ℤ) → natAbs n ≤ furthest → SunNear n
 sun-near n h = sun-within n (in-reach n h)
+
+pub sums-near : (n : ℤ) → natAbs n ≤ furthest → SumsNear n
+sums-near n h = record { moon = moon-near n h; sun = sun-near n h }

@@ -40,3 +40,8 @@ pub record SunNear (n : ℤ) : Type 0 where
   pub longitude : Within (whole (Sun.L n) -q nat 10_000_000_000 *q sun-L (millennia n)) L-bound
   pub latitude : Within (whole (Sun.B n) -q nat 10_000_000_000 *q sun-B (millennia n)) B-bound
   pub radius : Within (whole (Sun.R n) -q nat 10_000_000_000 *q sun-R (millennia n)) R-bound
+
+-- both bodies at TT n
+pub record SumsNear (n : ℤ) : Type 0 where
+  pub moon : MoonNear n
+  pub sun : SunNear n

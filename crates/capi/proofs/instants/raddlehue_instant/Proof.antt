@@ -4,12 +4,12 @@ use mathlib.Core.Path.{_∙_, _≡_, ap, refl, sym}
 use Prim.Native.Nat.{ℕ}
 use lib.IntN.{pos}
 use borrow.Author.Needs.{needs}
-use Rattle.numbers.specs.Refusal.{first}
+use Rattle.calendar.specs.Refusal.{first}
 use Rattle.numbers.proofs.Machine.{passed}
 use Rattle.sum_rules.specs.declared.instant.Instant.{Instant}
 use Rattle.sky.specs.Answer.{Answer}
-use Rattle.sky.specs.Request.{instant, start-from, start-refusals}
-use Rattle.sky.specs.declared.request.Start.{Start}
+use Rattle.request.specs.Request.{instant, start-from, start-refusals}
+use Rattle.request.specs.declared.start.Start.{Start}
 use Rattle.sky.proofs.AnswerLaws.{judged-refusal, judged-value}
 use Rattle.capi.specs.Answers.{instant-values, started}
 use Rattle.capi.proofs.WrittenLaws.{refused, seen}

@@ -2,7 +2,7 @@
 use mathlib.Core.Path.{_∙_, _≡_, ap, sym}
 use borrow.Author.Needs.{needs}
 use Rattle.number_rules.specs.Calendar.{DayAnswer, day-count}
-use Rattle.numbers.specs.DayCount.{count-answer}
+use Rattle.calendar.specs.DayCount.{count-answer}
 use Rattle.numbers.proofs.Machine.{any, passed}
 use Rattle.capi.proofs.WrittenLaws.{answered, refused-by}
 use Rattle.capi.proofs.leaves.raddlehue_day_count.Statement.{statement}

@@ -7,8 +7,8 @@ use borrow.Author.Needs.{needs}
 use mir.Syntax.{w64}
 use mir.ValLaws.{toZ-pos}
 use Rattle.numbers.proofs.Machine.{any, sfits-nat}
-use Rattle.sky.specs.Heading.{MiddleAnswer, middle, middle-answer}
-use Rattle.capi.proofs.MiddleSize.{middle-below}
+use Rattle.heading.specs.Heading.{MiddleAnswer, middle, middle-answer}
+use Rattle.heading.proofs.MiddleSize.{middle-below}
 use Rattle.capi.proofs.WrittenLaws.{answered, refused-by}
 use Rattle.capi.proofs.middle.raddlehue_middle.Statement.{statement}
 use Rattle.capi.proofs.middle.raddlehue_middle.Tie as tie

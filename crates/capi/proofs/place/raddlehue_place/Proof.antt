@@ -5,11 +5,11 @@ use Prim.Native.Nat.{ℕ}
 use borrow.Author.Needs.{needs}
 use Rattle.numbers.proofs.Machine.{passed}
 use Rattle.sky.specs.Answer.{Answer, nowhere, place, place-answer}
-use Rattle.sky.specs.Request.{start-from}
+use Rattle.request.specs.Request.{start-from}
 use Rattle.sky_vectors.specs.declared.place.Place.{Place}
 use Rattle.capi.specs.Answers.{coded-place, place-values}
-use Rattle.capi.specs.Codes.{air-of, body-of, code-refusal}
-use Rattle.capi.specs.Given.{point-from}
+use Rattle.boundary.specs.Codes.{air-of, body-of, code-refusal}
+use Rattle.boundary.specs.Given.{point-from}
 use Rattle.capi.proofs.WrittenLaws.{known, refused, refused-by, seen, unknown}
 use Rattle.capi.proofs.place.raddlehue_place.Statement.{statement}
 use Rattle.capi.proofs.place.raddlehue_place.Tie as tie

@@ -3,12 +3,12 @@ use mathlib.Core.Path.{_∙_, _≡_, ap, sym}
 use Prim.Native.Nat.{ℕ}
 use borrow.Author.Needs.{needs}
 use Rattle.sky.specs.Answer.{Answer, shown-answer, shown-place}
-use Rattle.sky.specs.Request.{start-from}
+use Rattle.request.specs.Request.{start-from}
 use Rattle.sky.specs.Shown.{nothing-shown}
 use Rattle.sky.specs.declared.shown.Shown.{Shown}
 use Rattle.capi.specs.Answers.{coded-shown-place, shown-values}
-use Rattle.capi.specs.Codes.{air-of, body-of, code-refusal}
-use Rattle.capi.specs.Given.{point-from}
+use Rattle.boundary.specs.Codes.{air-of, body-of, code-refusal}
+use Rattle.boundary.specs.Given.{point-from}
 use Rattle.capi.proofs.WrittenLaws.{known, refused, refused-by, seen, unknown}
 use Rattle.capi.proofs.place.raddlehue_shown_place.Statement.{statement}
 use Rattle.capi.proofs.place.raddlehue_shown_place.Tie as tie

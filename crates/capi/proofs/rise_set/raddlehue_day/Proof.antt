@@ -8,9 +8,11 @@ use Rattle.sky.specs.Answer.{Answer}
 use Rattle.day.specs.Answer.{RiseSetNumbers, neither, rise-and-set, rise-set-answer}
 use Rattle.day.specs.Curve.{curve}
 use Rattle.capi.specs.Answers.{written-one}
-use Rattle.capi.specs.Codes.{body-of, body-refusal}
-use Rattle.capi.specs.Given.{point-from}
-use Rattle.capi.specs.RiseSet.{coded-rise-set, date-from, rise-set-values}
+use Rattle.boundary.specs.Codes.{body-of, body-refusal}
+use Rattle.boundary.specs.Given.{point-from}
+use Rattle.boundary.specs.Lent.{rise-set-values}
+use Rattle.day.specs.Date.{date-from}
+use Rattle.capi.specs.RiseSet.{coded-rise-set}
 use Rattle.capi.proofs.WrittenLaws.{known, refused, refused-by, seen, unknown}
 use Rattle.capi.proofs.rise_set.raddlehue_day.Statement.{statement}
 use Rattle.capi.proofs.rise_set.raddlehue_day.Tie as tie

@@ -1,6 +1,6 @@
--- `moon_example::site` meets its contract: none of 7 to 9 applies.
+-- `cases::moon_example::site` meets its contract: none of 7 to 9 applies.
 use mathlib.Core.Path.{refl}
-use Rattle.numbers.specs.Refusal.{first}
+use Rattle.calendar.specs.Refusal.{first}
 use Rattle.numbers.specs.Whole.{between}
 use Rattle.cases.proofs.moon_example.site.Statement.{statement}
 use Rattle.cases.proofs.moon_example.site.Tie as tie

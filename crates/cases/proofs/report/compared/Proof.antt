@@ -1,4 +1,4 @@
--- `report::compared` is safe and ends: the rows from the first to the fifth.
+-- `cases::report::compared` is safe and ends: the rows from the first to the fifth.
 use Prim.Native.Nat.{_-_, _≤_}
 use borrow.Author.Needs.{needs}
 use Rattle.cases.proofs.report.compared.Statement.{statement}

@@ -1,4 +1,4 @@
--- `report::double` meets its contract: a double holds any whole number within a turn.
+-- `cases::report::double` meets its contract: a double holds any whole number within a turn.
 use mathlib.Core.Path.{_∙_, _≡_}
 use lib.Ieee as Ieee
 use lib.IntN.{pos}
@@ -6,8 +6,8 @@ use native.Mathlib.Omega.{arith}
 use borrow.Author.Needs.{needs}
 use Rattle.numbers.proofs.Machine.{any, arg}
 use Rattle.number_rules.specs.Angle.{full-turn}
-use Rattle.sky.proofs.DoubleMirror.{is-double}
-use Rattle.sky.proofs.RequestLaws.{between-size, tested}
+use Rattle.refraction.proofs.DoubleMirror.{is-double}
+use Rattle.request.proofs.RequestLaws.{between-size, tested}
 use Rattle.numbers.specs.Whole.{between}
 use Rattle.sum_rules.specs.Instant.{minus}
 use Rattle.cases.specs.Compare.{whole}

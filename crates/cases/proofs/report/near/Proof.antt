@@ -1,4 +1,4 @@
--- `report::near` meets its contract.
+-- `cases::report::near` meets its contract.
 use Rattle.cases.proofs.report.near.Statement.{statement}
 use Rattle.cases.proofs.report.near.Tie as tie
 

@@ -1,4 +1,4 @@
--- `report::within` meets its contract.
+-- `cases::report::within` meets its contract.
 use mathlib.Core.Path.{_∙_, ap}
 use borrow.Author.Needs.{needs}
 use Rattle.numbers.proofs.Machine.{any}

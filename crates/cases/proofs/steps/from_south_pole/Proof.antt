@@ -4,7 +4,8 @@ use Rattle.number_rules.specs.Angle.{quarter-turn}
 use Rattle.sum_rules.specs.Instant.{minus}
 use Rattle.sky_vectors.specs.Place.{from-centre, place-towards}
 use Rattle.sky_vectors.specs.SkyRange.{SmallVector, direction-limit}
-use Rattle.sky_vectors.proofs.SkySizes.{centre-small, gave-one-angle, gave-sine-cosine, widen}
+use Rattle.numbers.proofs.SineCosineLaws.{gave-one-angle, gave-sine-cosine}
+use Rattle.sky_vectors.proofs.SkySizes.{centre-small, widen}
 use borrow.Author.Needs.{needs}
 use Rattle.cases.proofs.steps.from_south_pole.Statement.{statement}
 use Rattle.cases.proofs.steps.from_south_pole.Tie as tie

@@ -1,9 +1,8 @@
--- `steps::moment_of` meets its contract: an accepted start is within reach.
+-- `cases::steps::moment_of` meets its contract: an accepted start is within reach.
 use mathlib.Core.Path.{_∙_, ap, subst⁻¹}
 use borrow.Author.Needs.{needs}
-use Rattle.numbers.proofs.Machine.{Mirror, asked}
-use Rattle.sky.proofs.RequestLaws.{start-reachable}
-use Rattle.sky_vectors.proofs.SkyMirror.{field}
+use Rattle.numbers.proofs.Machine.{Mirror, asked, field}
+use Rattle.request.proofs.RequestLaws.{start-reachable}
 use Rattle.sky_vectors.specs.SkyRange.{Reachable}
 use Rattle.sums.proofs.InstantLaws.{reached}
 use Rattle.sum_rules.specs.Instant.{powers}

@@ -6,7 +6,7 @@ use Rattle.number_rules.specs.Angle.{half-turn}
 use mir.Syntax.{w64}
 use mir.Val.{SFits, ofZ, toZ}
 use mir.ValLaws.{toZ-ofZ}
-use Rattle.sky.proofs.RequestLaws.{on-earth}
+use Rattle.request.proofs.RequestLaws.{on-earth}
 use Rattle.sky_vectors.specs.Geocentric.{geocentric}
 use Rattle.sky_vectors.specs.Orientation.{orientation}
 use Rattle.sky_vectors.specs.Station.{runner}

@@ -1,9 +1,9 @@
--- `sun_example::start` meets its contract: none of 1 to 6 applies.
+-- `cases::sun_example::start` meets its contract: none of 1 to 6 applies.
 use mathlib.Core.Path.{refl}
 use Rattle.number_rules.specs.Calendar.{day-count, leap, month-length}
-use Rattle.numbers.specs.Refusal.{first}
+use Rattle.calendar.specs.Refusal.{first}
 use Rattle.numbers.specs.Whole.{between}
-use Rattle.sky.specs.Request.{is-clock}
+use Rattle.request.specs.Request.{is-clock}
 use Rattle.cases.proofs.sun_example.start.Statement.{statement}
 use Rattle.cases.proofs.sun_example.start.Tie as tie
 

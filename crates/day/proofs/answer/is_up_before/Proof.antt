@@ -13,7 +13,7 @@ use Rattle.sum_rules.specs.Instant.{first-day}
 use Rattle.sum_rules.specs.declared.instant.Instant.{Instant}
 use Rattle.day.specs.Crossing.{is-up}
 use Rattle.day.specs.Curve.{AcceptedDay, minute-of}
-use Rattle.day.proofs.RequestLaws.{minute-reachable}
+use Rattle.day.proofs.DateLaws.{minute-reachable}
 use Rattle.day.proofs.answer.is_up_before.Statement.{statement}
 use Rattle.day.proofs.answer.is_up_before.Tie as tie
 

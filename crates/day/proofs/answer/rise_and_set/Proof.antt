@@ -2,11 +2,11 @@
 use mathlib.Core.Path.{_∙_, _≡_, ap, refl, sym}
 use borrow.Author.Needs.{needs}
 use borrow.Author.Tests.{ne-eqb}
-use Rattle.numbers.proofs.RefusalLaws.{never-none}
-use Rattle.numbers.specs.Refusal.{first, number, verdict-number}
+use Rattle.calendar.proofs.RefusalLaws.{never-none}
+use Rattle.calendar.specs.Refusal.{first, number, verdict-number}
 use Rattle.sky.proofs.AnswerLaws.{judged-value, judged-zeros}
 use Rattle.day.specs.Answer.{crossings, neither, rise-and-set}
-use Rattle.day.specs.Request.{day-refusals}
+use Rattle.day.specs.Date.{day-refusals}
 use Rattle.day.proofs.AnswerLaws.{every-day-near, one-rise-set}
 use Rattle.day.proofs.answer.rise_and_set.Statement.{statement}
 use Rattle.day.proofs.answer.rise_and_set.Tie as tie

@@ -10,11 +10,11 @@ use Rattle.sky_vectors.specs.Place.{place-at}
 use Rattle.sky_vectors.specs.SkyRange.{Standing}
 use Rattle.day.specs.Crossing.{first-minute}
 use Rattle.day.specs.Curve.{AcceptedDay, curve, each-below, elevation-from, minutes}
-use Rattle.day.specs.Request.{days}
+use Rattle.day.specs.Date.{days}
 use Rattle.day.specs.Worked.{crosses-in, entry, up-before-day}
 use Rattle.day.specs.declared.crossing.Event.the-variants.{Rise, Set}
 use Rattle.day.proofs.CrossingLaws.{curve-decides, entry-is, side-before}
-use Rattle.day.proofs.RequestLaws.{accepted-day, day-before, point-on-earth}
+use Rattle.day.proofs.DateLaws.{accepted-day, day-before, point-on-earth}
 use Rattle.day.proofs.answer.work.Statement.{statement}
 use Rattle.day.proofs.answer.work.Tie as tie
 

@@ -13,7 +13,7 @@ use Rattle.sky_vectors.specs.SkyRange.{Reachable}
 use Rattle.sum_rules.specs.declared.instant.Instant.{Instant}
 use Rattle.day.specs.Curve.{AcceptedDay, each-below, elevation-from, minutes}
 use Rattle.day.proofs.CurveLaws.{filled-more, filled-none}
-use Rattle.day.proofs.RequestLaws.{minute-reachable}
+use Rattle.day.proofs.DateLaws.{minute-reachable}
 use Rattle.day.proofs.curve.fill.Statement.{statement}
 use Rattle.day.proofs.curve.fill.Tie as tie
 

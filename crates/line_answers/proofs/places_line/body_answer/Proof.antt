@@ -1,4 +1,4 @@
--- `places_line::body_answer` meets its contract.
+-- `line_answers::places_line::body_answer` meets its contract.
 use mathlib.Core.List.{List}
 use mathlib.Core.Path.{_∙_, _≡_, ap, sym}
 use Prim.Native.Nat.{ℕ}
@@ -10,8 +10,8 @@ use Rattle.line_answers.proofs.PlacesLineLaws.{not-read, was-read}
 use Rattle.sky.proofs.AnswerLaws.{one-place}
 use Rattle.sky.specs.Answer.{place}
 use Rattle.line_answers.specs.PlacesLine.{body-answer, point-from}
-use Rattle.sky.specs.Request.{start-from}
-use Rattle.sky.specs.declared.air.Air.the-variants as Airs
+use Rattle.request.specs.Request.{start-from}
+use Rattle.refraction.specs.declared.air.Air.the-variants as Airs
 use borrow.Author.Needs.{needs}
 use Rattle.line_answers.proofs.places_line.body_answer.Statement.{statement}
 use Rattle.line_answers.proofs.places_line.body_answer.Tie as tie

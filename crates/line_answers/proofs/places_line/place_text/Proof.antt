@@ -1,4 +1,4 @@
--- `places_line::place_text` meets its contract.
+-- `line_answers::places_line::place_text` meets its contract.
 use mathlib.Core.Path.{_∙_}
 use Prim.Native.Nat.{_≤_}
 use native.Mathlib.Omega.{arith}

@@ -1,4 +1,4 @@
--- `places_line::places_answer` meets its contract.
+-- `line_answers::places_line::places_answer` meets its contract.
 use mathlib.Core.Bool.{false, true}
 use mathlib.Core.Path.{_∙_, _≡_, sym}
 use Rattle.text.proofs.LineLaws.{begins-within}

@@ -1,4 +1,4 @@
--- `places_line::places_line` meets its contract.
+-- `line_answers::places_line::places_line` meets its contract.
 use mathlib.Core.Path.{_∙_, ap, sym}
 use Rattle.line_answers.proofs.PrintedLaws.{refused-line, value-line}
 use Rattle.sky.specs.Answer.{nowhere, place-answer}

@@ -1,4 +1,4 @@
--- `places_line::point_from` meets its contract.
+-- `line_answers::places_line::point_from` meets its contract.
 use Rattle.line_answers.specs.PlacesLine.{point-from}
 use borrow.Author.Needs.{needs}
 use Rattle.line_answers.proofs.places_line.point_from.Statement.{statement}

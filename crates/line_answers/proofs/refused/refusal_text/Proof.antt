@@ -1,4 +1,4 @@
--- `refused::refusal_text` meets its contract.
+-- `line_answers::refused::refusal_text` meets its contract.
 use mathlib.Core.Path.{_∙_, ap}
 use Prim.Native.Nat.{_+_, _≤_}
 use native.Mathlib.Omega.{arith}

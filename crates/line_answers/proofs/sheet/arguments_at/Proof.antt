@@ -1,11 +1,10 @@
--- `sheet::arguments_at` meets its contract.
+-- `line_answers::sheet::arguments_at` meets its contract.
 use mathlib.Core.List.{List}
 use mathlib.Core.Path.{_∙_, _≡_, ap}
 use Prim.Native.Nat.{_≤_}
 use lib.IntN.{pos, ℤ}
-use Rattle.numbers.proofs.Machine.{Mirror, from-nat, nat-fits, told}
+use Rattle.numbers.proofs.Machine.{Mirror, field, from-nat, nat-fits, told}
 use Rattle.number_rules.specs.Angle.{full-turn}
-use Rattle.sky_vectors.proofs.SkyMirror.{field}
 use Rattle.line_answers.specs.Sheet.{arguments}
 use Rattle.sums.proofs.InstantLaws.{mean-most, reached, value-small}
 use Rattle.sum_rules.specs.Instant.{powers}

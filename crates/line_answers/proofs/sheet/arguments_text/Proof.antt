@@ -1,4 +1,4 @@
--- `sheet::arguments_text` meets its contract.
+-- `line_answers::sheet::arguments_text` meets its contract.
 use mathlib.Core.Path.{_∙_, _≡_}
 use Prim.Native.Nat.{_+_, _≤_}
 use native.Mathlib.Omega.{arith}

@@ -1,4 +1,4 @@
--- `sheet::sheet_line` meets its contract.
+-- `line_answers::sheet::sheet_line` meets its contract.
 use mathlib.Core.Path.{_∙_, ap, sym}
 use Rattle.line_answers.proofs.PrintedLaws.{refused-line, value-line}
 use Rattle.line_answers.specs.Sheet.{arguments-line, no-arguments, row-answer, sheet-line}

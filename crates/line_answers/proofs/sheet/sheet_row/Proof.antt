@@ -1,10 +1,10 @@
--- `sheet::sheet_row` meets its contract.
+-- `line_answers::sheet::sheet_row` meets its contract.
 use mathlib.Core.Path.{_∙_, ap, sym}
 use borrow.Author.Tests.{not-false, not-true}
 use Rattle.text.specs.Line.{sheet-numbers}
 use Rattle.text.specs.declared.line.Numbers.{Numbers}
 use Rattle.line_answers.proofs.SheetLaws.{not-read, one-row, was-read}
-use Rattle.sky.specs.Request.{start-from}
+use Rattle.request.specs.Request.{start-from}
 use Rattle.line_answers.specs.Sheet.{sheet-row, start-row}
 use borrow.Author.Needs.{needs}
 use Rattle.line_answers.proofs.sheet.sheet_row.Statement.{statement}

@@ -1,5 +1,5 @@
--- `sheet::start_from` meets its contract.
-use Rattle.sky.specs.Request.{start-from}
+-- `line_answers::sheet::start_from` meets its contract.
+use Rattle.request.specs.Request.{start-from}
 use borrow.Author.Needs.{needs}
 use Rattle.line_answers.proofs.sheet.start_from.Statement.{statement}
 use Rattle.line_answers.proofs.sheet.start_from.Tie as tie

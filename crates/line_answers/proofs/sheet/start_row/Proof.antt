@@ -1,10 +1,10 @@
--- `sheet::start_row` meets its contract.
+-- `line_answers::sheet::start_row` meets its contract.
 use mathlib.Core.Path.{_∙_, _≡_, ap, subst⁻¹, sym}
-use Rattle.numbers.specs.Refusal.{first, verdict-number}
-use Rattle.numbers.proofs.RefusalLaws.{never-none}
+use Rattle.calendar.specs.Refusal.{first, verdict-number}
+use Rattle.calendar.proofs.RefusalLaws.{never-none}
 use Rattle.sky.proofs.AnswerLaws.{judged-value, judged-zeros}
-use Rattle.sky.proofs.RequestLaws.{start-reachable}
-use Rattle.sky.specs.Request.{instant, start-refusals}
+use Rattle.request.proofs.RequestLaws.{start-reachable}
+use Rattle.request.specs.Request.{instant, start-refusals}
 use Rattle.sky_vectors.specs.SkyRange.{Reachable}
 use Rattle.line_answers.proofs.SheetLaws.{one-row}
 use Rattle.line_answers.specs.Sheet.{arguments, no-arguments, start-row}

@@ -9,9 +9,9 @@ use mir.Syntax.{w64}
 use mir.Val.{toZ}
 use Rattle.arithmetic.specs.Floor.{_modulo_, ⌊_÷_⌋}
 use Rattle.arithmetic.proofs.FloorLaws.{floor-small, left-small, modulo-below}
-use Rattle.arithmetic.proofs.Sizes.{abs-mul}
+use Rattle.arithmetic.proofs.Sizes.{abs-mul, other-part}
 use Rattle.numbers.proofs.Machine.{Mirror, _⊕_, _⊖_, _⊗_, arg, bounded, fits, from-nat, kept, lit, nat-fits, shr-by, small-floor-gave}
-use Rattle.numbers.proofs.WideProduct.{base, other-part, upper, upper-floor, wide-floor}
+use Rattle.numbers.proofs.WideProduct.{base, upper, upper-floor, wide-floor}
 use Rattle.numbers.proofs.whole.mul_div.Statement.{statement}
 use Rattle.numbers.proofs.whole.mul_div.Tie as tie
 

@@ -1,7 +1,7 @@
 -- `numbers::whole::sign_of` meets its contract.
 use mathlib.Core.Path.{sym}
 use lib.IntN.{negsuc, pos}
-use Rattle.numbers.proofs.ArctangentLaws.{sign-above, sign-below, sign-zero}
+use Rattle.numbers.proofs.SignLaws.{sign-above, sign-below, sign-zero}
 use Rattle.numbers.proofs.Machine.{any, less, lit, not-less}
 use Rattle.numbers.proofs.whole.sign_of.Statement.{statement}
 use Rattle.numbers.proofs.whole.sign_of.Tie as tie

@@ -1,14 +1,14 @@
 -- `sky::answer::place_in` meets its contract.
 use mathlib.Core.Path.{_∙_, _≡_, ap, subst⁻¹, sym}
-use Rattle.numbers.specs.Refusal.{first, number, verdict-number}
-use Rattle.numbers.proofs.RefusalLaws.{never-none}
+use Rattle.calendar.specs.Refusal.{first, verdict-number}
+use Rattle.calendar.proofs.RefusalLaws.{never-none}
 use Rattle.sky_vectors.specs.Place.{place-at}
 use Rattle.sky_vectors.specs.SkyRange.{Reachable}
-use Rattle.sky.specs.Air.{air-refusals}
+use Rattle.refraction.specs.Air.{air-refusals}
 use Rattle.sky.specs.Answer.{nowhere, place, request-refusals}
-use Rattle.sky.specs.Request.{instant, point-refusals, start-refusals}
+use Rattle.request.specs.Request.{instant, point-refusals, start-refusals}
 use Rattle.sky.proofs.AnswerLaws.{judged-value, judged-zeros, one-place}
-use Rattle.sky.proofs.RequestLaws.{on-earth, point-passes, start-passes, start-reachable}
+use Rattle.request.proofs.RequestLaws.{on-earth, point-passes, start-passes, start-reachable}
 use borrow.Author.Needs.{needs}
 use Rattle.sky.proofs.answer.place_in.Statement.{statement}
 use Rattle.sky.proofs.answer.place_in.Tie as tie

@@ -1,8 +1,8 @@
 -- `sky::answer::request_verdict` meets its contract.
 use mathlib.Core.List.{_++_}
-use Rattle.numbers.proofs.RefusalLaws.{joined}
-use Rattle.sky.specs.Air.{air-refusals}
-use Rattle.sky.specs.Request.{point-refusals, start-refusals}
+use Rattle.calendar.proofs.RefusalLaws.{joined}
+use Rattle.refraction.specs.Air.{air-refusals}
+use Rattle.request.specs.Request.{point-refusals, start-refusals}
 use borrow.Author.Needs.{needs}
 use Rattle.sky.proofs.answer.request_verdict.Statement.{statement}
 use Rattle.sky.proofs.answer.request_verdict.Tie as tie

@@ -1,12 +1,12 @@
 -- `sky::answer::shown_place` meets its contract.
 use mathlib.Core.Path.{_∙_, _≡_, ap, subst⁻¹, sym}
-use Rattle.numbers.specs.Refusal.{first, number}
-use Rattle.numbers.proofs.RefusalLaws.{never-none}
+use Rattle.calendar.specs.Refusal.{first, number}
+use Rattle.calendar.proofs.RefusalLaws.{never-none}
 use Rattle.sky_vectors.proofs.PlaceLaws.{place-at-in-turns}
 use Rattle.sky_vectors.specs.Place.{InTurns, place-at}
 use Rattle.sky_vectors.specs.declared.place.Place.{Place}
 use Rattle.sky.specs.Answer.{Answer, nowhere, place, place-answer, request-refusals, shown-place}
-use Rattle.sky.specs.Request.{instant}
+use Rattle.request.specs.Request.{instant}
 use Rattle.sky.specs.Shown.{nothing-shown, shown}
 use Rattle.sky.proofs.AnswerLaws.{judged-refusal, judged-value, judged-zeros, not-refused, one-shown}
 use Rattle.sky.proofs.Demand3.{every-place-near}

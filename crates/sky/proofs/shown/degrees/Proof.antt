@@ -2,7 +2,7 @@
 use lib.Ieee as Ieee
 use Rattle.numbers.proofs.Machine.{Mirror, arg}
 use Rattle.sky.specs.Shown.{degrees}
-use Rattle.sky.proofs.DoubleMirror.{is-double}
+use Rattle.refraction.proofs.DoubleMirror.{is-double}
 use Rattle.sky.proofs.shown.degrees.Statement.{statement}
 use Rattle.sky.proofs.shown.degrees.Tie as tie
 

@@ -2,11 +2,10 @@
 use mathlib.Core.Path.{_∙_, ap}
 use native.Mathlib.Nat.{le-of-lt}
 use borrow.Author.Needs.{needs}
-use Rattle.numbers.proofs.Machine.{Mirror, asked}
-use Rattle.sky.specs.Double.{_+d_}
-use Rattle.sky.specs.Refraction.{refraction}
+use Rattle.numbers.proofs.Machine.{Mirror, asked, field}
+use Rattle.refraction.specs.Double.{_+d_}
+use Rattle.refraction.specs.Refraction.{refraction}
 use Rattle.sky.specs.Shown.{degrees, shown}
-use Rattle.sky_vectors.proofs.SkyMirror.{field}
 use Rattle.sky.proofs.shown.shown_at.Statement.{statement}
 use Rattle.sky.proofs.shown.shown_at.Tie as tie
 

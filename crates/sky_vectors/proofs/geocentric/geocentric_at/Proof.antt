@@ -1,4 +1,4 @@
--- `geocentric::geocentric_at` meets its contract.
+-- `sky_vectors::geocentric::geocentric_at` meets its contract.
 use mathlib.Core.Path.{_∙_, _≡_}
 use borrow.Author.Needs.{needs}
 use mir.Syntax.{w64}

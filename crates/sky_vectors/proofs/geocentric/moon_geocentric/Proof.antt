@@ -1,4 +1,4 @@
--- `geocentric::moon_geocentric` meets its contract.
+-- `sky_vectors::geocentric::moon_geocentric` meets its contract.
 use mathlib.Core.Path.{_∙_, _≡_, subst⁻¹}
 use Prim.Native.Nat.{_*_, _<_, _^_, _≤_, ℕ}
 use native.Mathlib.Omega.{arith}

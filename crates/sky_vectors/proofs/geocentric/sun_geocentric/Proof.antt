@@ -1,4 +1,4 @@
--- `geocentric::sun_geocentric` meets its contract.
+-- `sky_vectors::geocentric::sun_geocentric` meets its contract.
 use mathlib.Core.Path.{_∙_, _≡_, ap, subst⁻¹}
 use Prim.Native.Nat.{_<_, _^_, _≤_}
 use native.Mathlib.Omega.{arith}

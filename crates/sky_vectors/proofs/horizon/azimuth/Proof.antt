@@ -1,4 +1,4 @@
--- `horizon::azimuth` meets its contract.
+-- `sky_vectors::horizon::azimuth` meets its contract.
 use mathlib.Core.Path.{refl}
 use borrow.Author.Needs.{needs}
 use Rattle.numbers.proofs.Machine.{Mirror, some-gave}

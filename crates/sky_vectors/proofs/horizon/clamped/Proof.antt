@@ -1,4 +1,4 @@
--- `horizon::clamped` meets its contract.
+-- `sky_vectors::horizon::clamped` meets its contract.
 use mathlib.Core.Bool.{false, true}
 use mathlib.Core.Path.{_≡_, subst}
 use lib.IntN.{negℤ, pos, ℤ}

@@ -1,10 +1,10 @@
--- `horizon::elevation` meets its contract: each call's equation, put into the next.
+-- `sky_vectors::horizon::elevation` meets its contract: each call's equation, put into the next.
 use mathlib.Core.Path.{_∙_, _≡_, ap, ap₂}
 use lib.IntN.{ℤ}
 use borrow.Author.Needs.{needs}
-use Rattle.numbers.proofs.Machine.{Mirror, asked, gave, passed}
+use Rattle.numbers.proofs.Machine.{Mirror, asked, field, gave, passed}
 use Rattle.sky_vectors.specs.Horizon.{clamped, elevation, level, lowered, slope}
-use Rattle.sky_vectors.proofs.SkyMirror.{field, slope-most}
+use Rattle.sky_vectors.proofs.SkyMirror.{slope-most}
 use Rattle.sky_vectors.proofs.horizon.elevation.Statement.{statement}
 use Rattle.sky_vectors.proofs.horizon.elevation.Tie as tie
 

@@ -1,4 +1,4 @@
--- `horizon::horizon_at` meets its contract.
+-- `sky_vectors::horizon::horizon_at` meets its contract.
 use borrow.Author.Needs.{needs}
 use Rattle.sky_vectors.specs.Horizon.{horizon}
 use Rattle.sky_vectors.specs.Rotation.{rotated}

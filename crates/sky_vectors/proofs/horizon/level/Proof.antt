@@ -1,4 +1,4 @@
--- `horizon::level` meets its contract. The two squares, each at most 9·10¹⁸, fit 64 unsigned bits together.
+-- `sky_vectors::horizon::level` meets its contract. The two squares, each at most 9·10¹⁸, fit 64 unsigned bits together.
 use mathlib.Core.Path.{_∙_, _≡_, ap, ap₂, sym}
 use Prim.Native.Nat.{_+_, _≤_}
 use native.Mathlib.Omega.{arith}
@@ -8,11 +8,11 @@ use mir.Val.{Fits, SFits}
 use mir.ValLaws.{toZ-pos}
 use borrow.Author.Needs.{needs}
 use Rattle.numbers.specs.Root.{root}
-use Rattle.numbers.proofs.Machine.{Mirror, _⊗_, fits, kept, nat-fits}
+use Rattle.numbers.proofs.Machine.{Mirror, _⊗_, field, fits, kept, nat-fits}
 use Rattle.numbers.proofs.RootLaws.{root-most}
 use Rattle.sky_vectors.specs.Horizon.{level}
 use Rattle.sky_vectors.specs.declared.horizon.Horizon.{Horizon}
-use Rattle.sky_vectors.proofs.SkyMirror.{field, square-cast, square-is, square-most}
+use Rattle.sky_vectors.proofs.SkyMirror.{square-cast, square-is, square-most}
 use Rattle.sky_vectors.proofs.horizon.level.Statement.{statement}
 use Rattle.sky_vectors.proofs.horizon.level.Tie as tie
 

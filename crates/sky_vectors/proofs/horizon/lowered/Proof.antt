@@ -1,4 +1,4 @@
--- `horizon::lowered` meets its contract.
+-- `sky_vectors::horizon::lowered` meets its contract.
 use mathlib.Core.Bool.{false, true}
 use mathlib.Core.Path.{_≡_, subst}
 use lib.IntN.{pos, ℤ}

@@ -1,4 +1,4 @@
--- `horizon::slope` meets its contract: the test is that of the rule, one number after the other.
+-- `sky_vectors::horizon::slope` meets its contract: the test is that of the rule, one number after the other.
 use mathlib.Core.Logic.{⊎-elim}
 use Prim.Native.Nat.{_+_, _<_}
 use native.Mathlib.Omega.{arith}

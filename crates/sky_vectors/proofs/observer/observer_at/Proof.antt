@@ -1,4 +1,4 @@
--- `observer::observer_at` meets its contract. Each local is mirrored once, at the place where it is known.
+-- `sky_vectors::observer::observer_at` meets its contract. Each local is mirrored once, at the place where it is known.
 use mathlib.Core.Path.{_∙_, _≡_, ap}
 use lib.IntN.{ℤ}
 use borrow.Author.Needs.{needs}
@@ -6,7 +6,8 @@ use Rattle.number_rules.specs.Sine.{cosine, sine}
 use Rattle.numbers.proofs.Machine.{Mirror, _⊕_, _⊗_, arg, fits, floor-gave, kept, lit, told}
 use Rattle.number_rules.proofs.SineSize.{cosine-most, sine-most}
 use Rattle.sky_vectors.specs.Observer.{flattened, observer, polar, radius}
-use Rattle.sky_vectors.proofs.SkyMirror.{angle-fits, angle-gave, cosine-in, sine-in}
+use Rattle.numbers.proofs.SineCosineLaws.{cosine-in, sine-in}
+use Rattle.sky_vectors.proofs.SkyMirror.{angle-fits, angle-gave}
 use Rattle.sky_vectors.proofs.observer.observer_at.Statement.{statement}
 use Rattle.sky_vectors.proofs.observer.observer_at.Tie as tie
 

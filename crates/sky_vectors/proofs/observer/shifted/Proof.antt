@@ -1,9 +1,9 @@
--- `observer::shifted` meets its contract.
+-- `sky_vectors::observer::shifted` meets its contract.
 use borrow.Author.Needs.{needs}
-use Rattle.numbers.proofs.Machine.{Mirror, _⊖_, _⊗_, arg, fits, floor-gave, kept}
+use Rattle.numbers.proofs.Machine.{Mirror, _⊖_, _⊗_, arg, field, fits, floor-gave, kept}
 use Rattle.sky_vectors.specs.Observer.{shifted}
 use Rattle.sky_vectors.specs.Product.{_·_}
-use Rattle.sky_vectors.proofs.SkyMirror.{field, x-in, y-in, z-in}
+use Rattle.sky_vectors.proofs.SkyMirror.{x-in, y-in, z-in}
 use Rattle.sky_vectors.proofs.observer.shifted.Statement.{statement}
 use Rattle.sky_vectors.proofs.observer.shifted.Tie as tie
 

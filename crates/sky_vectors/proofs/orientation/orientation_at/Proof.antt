@@ -1,4 +1,4 @@
--- `orientation::orientation_at` meets its contract.
+-- `sky_vectors::orientation::orientation_at` meets its contract.
 use mathlib.Core.Path.{_∙_, _≡_, ap}
 use Prim.Native.Nat.{_^_, _≤_}
 use lib.IntN.{_+ℤ_, natAbs, ℤ}

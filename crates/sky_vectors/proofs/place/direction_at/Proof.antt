@@ -1,4 +1,4 @@
--- `place::direction_at` meets its contract: the powers are those of the instant, so the body and the orientation are those of the rule.
+-- `sky_vectors::place::direction_at` meets its contract: the powers are those of the instant, so the body and the orientation are those of the rule.
 use mathlib.Core.Path.{_∙_, _≡_, ap, subst⁻¹}
 use Prim.Native.Nat.{_≤_}
 use lib.IntN.{natAbs}
@@ -6,9 +6,8 @@ use borrow.Author.Needs.{needs}
 use mir.Syntax.{w64}
 use mir.Val.{SFits}
 use mir.ValLaws.{toZ-ofZ}
-use Rattle.numbers.proofs.Machine.{Mirror, asked}
+use Rattle.numbers.proofs.Machine.{Mirror, asked, field}
 use Rattle.sky_vectors.proofs.Parallax.{parallax-small}
-use Rattle.sky_vectors.proofs.SkyMirror.{field}
 use Rattle.sky_vectors.specs.Geocentric.{geocentric}
 use Rattle.sky_vectors.specs.Orientation.{orientation}
 use Rattle.sky_vectors.specs.Place.{direction, from-surface}

@@ -1,11 +1,10 @@
--- `place::from_surface` meets its contract.
+-- `sky_vectors::place::from_surface` meets its contract.
 use mathlib.Core.Path.{_∙_, subst⁻¹}
 use borrow.Author.Needs.{needs}
-use Rattle.numbers.proofs.Machine.{Mirror}
+use Rattle.numbers.proofs.Machine.{Mirror, field}
 use Rattle.sky_vectors.specs.Observer.{shifted}
 use Rattle.sky_vectors.specs.Place.{from-surface}
 use Rattle.sky_vectors.specs.SkyRange.{SmallVector, vector-limit}
-use Rattle.sky_vectors.proofs.SkyMirror.{field}
 use Rattle.sky_vectors.proofs.SkySizes.{centre-small, widen}
 use Rattle.sky_vectors.proofs.place.from_surface.Statement.{statement}
 use Rattle.sky_vectors.proofs.place.from_surface.Tie as tie

@@ -1,4 +1,4 @@
--- `place::place_at` meets its contract.
+-- `sky_vectors::place::place_at` meets its contract.
 use mathlib.Core.Path.{_∙_, subst⁻¹}
 use borrow.Author.Needs.{needs}
 use Rattle.sky_vectors.specs.Place.{place-at, place-from}

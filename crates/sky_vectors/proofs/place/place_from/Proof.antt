@@ -1,4 +1,4 @@
--- `place::place_from` meets its contract.
+-- `sky_vectors::place::place_from` meets its contract.
 use mathlib.Core.Path.{_∙_, ap, subst⁻¹}
 use borrow.Author.Needs.{needs}
 use Rattle.sky_vectors.specs.Place.{place-from, place-towards}

@@ -1,4 +1,4 @@
--- `place::place_towards` meets its contract.
+-- `sky_vectors::place::place_towards` meets its contract.
 use mathlib.Core.Path.{_∙_, ap, subst⁻¹}
 use borrow.Author.Needs.{needs}
 use Rattle.numbers.proofs.Machine.{passed}

@@ -1,9 +1,9 @@
--- `rotation::rotated` meets its contract: each of its four products fits, and each sum of two.
+-- `sky_vectors::rotation::rotated` meets its contract: each of its four products fits, and each sum of two.
 use borrow.Author.Needs.{needs}
 use Rattle.numbers.proofs.Machine.{Mirror, _⊕_, _⊖_, _⊗_, arg, fits, floor-gave, kept}
 use Rattle.sky_vectors.specs.Product.{_·_}
 use Rattle.sky_vectors.specs.Rotation.{rotated}
-use Rattle.sky_vectors.proofs.SkyMirror.{cosine-in, sine-in}
+use Rattle.numbers.proofs.SineCosineLaws.{cosine-in, sine-in}
 use Rattle.sky_vectors.proofs.rotation.rotated.Statement.{statement}
 use Rattle.sky_vectors.proofs.rotation.rotated.Tie as tie
 

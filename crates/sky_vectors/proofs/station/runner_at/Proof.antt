@@ -1,13 +1,12 @@
--- `station::runner_at` meets its contract.
+-- `sky_vectors::station::runner_at` meets its contract.
 use mathlib.Core.Path.{_∙_, _≡_, ap, ap₂}
 use lib.IntN.{_*ℤ_, pos}
 use borrow.Author.Needs.{needs}
-use Rattle.numbers.proofs.Machine.{Mirror, _⊗_, asked, fits, kept, lit}
+use Rattle.numbers.proofs.Machine.{Mirror, _⊗_, asked, field, fits, kept, lit}
 use Rattle.sky_vectors.specs.Observer.{observer}
-use Rattle.sky_vectors.specs.Product.{sine-cosine}
+use Rattle.numbers.specs.SineCosine.{sine-cosine}
 use Rattle.sky_vectors.specs.Station.{runner}
-use Rattle.sky_vectors.proofs.SkyMirror.{field}
-use Rattle.sky_vectors.proofs.SkySizes.{gave-one-angle, gave-sine-cosine}
+use Rattle.numbers.proofs.SineCosineLaws.{gave-one-angle, gave-sine-cosine}
 use Rattle.sky_vectors.proofs.station.runner_at.Statement.{statement}
 use Rattle.sky_vectors.proofs.station.runner_at.Tie as tie
 

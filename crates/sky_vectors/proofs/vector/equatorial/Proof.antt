@@ -1,4 +1,4 @@
--- `vector::equatorial` meets its contract.
+-- `sky_vectors::vector::equatorial` meets its contract.
 use mathlib.Core.Path.{_∙_}
 use borrow.Author.Needs.{needs}
 use Rattle.sky_vectors.specs.Rotation.{rotated}

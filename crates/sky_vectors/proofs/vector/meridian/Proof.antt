@@ -1,4 +1,4 @@
--- `vector::meridian` meets its contract.
+-- `sky_vectors::vector::meridian` meets its contract.
 use borrow.Author.Needs.{needs}
 use Rattle.sky_vectors.specs.Rotation.{rotated}
 use Rattle.sky_vectors.specs.Vector.{meridian}

@@ -1,9 +1,9 @@
--- `vector::unit_vector` meets its contract.
+-- `sky_vectors::vector::unit_vector` meets its contract.
 use borrow.Author.Needs.{needs}
 use Rattle.numbers.proofs.Machine.{Mirror, _⊗_, fits, floor-gave, kept}
 use Rattle.sky_vectors.specs.Product.{_·_}
 use Rattle.sky_vectors.specs.Vector.{unit-vector}
-use Rattle.sky_vectors.proofs.SkyMirror.{cosine-in, sine-in}
+use Rattle.numbers.proofs.SineCosineLaws.{cosine-in, sine-in}
 use Rattle.sky_vectors.proofs.vector.unit_vector.Statement.{statement}
 use Rattle.sky_vectors.proofs.vector.unit_vector.Tie as tie
 

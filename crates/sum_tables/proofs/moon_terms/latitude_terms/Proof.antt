@@ -1,4 +1,4 @@
--- `sums::moon_terms::latitude_terms` is the table of specs, entry by entry.
+-- `sum_tables::moon_terms::latitude_terms` is the table of specs, entry by entry.
 use mathlib.Core.Path.{refl}
 use Rattle.sum_rules.specs.MoonTerms.{latitude-terms}
 use Rattle.sum_tables.proofs.moon_terms.latitude_terms.Statement.{statement}

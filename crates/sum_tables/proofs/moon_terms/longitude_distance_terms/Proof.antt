@@ -1,4 +1,4 @@
--- `sums::moon_terms::longitude_distance_terms` is the table of specs, entry by entry.
+-- `sum_tables::moon_terms::longitude_distance_terms` is the table of specs, entry by entry.
 use mathlib.Core.Path.{refl}
 use Rattle.sum_rules.specs.MoonTerms.{longitude-distance-terms}
 use Rattle.sum_tables.proofs.moon_terms.longitude_distance_terms.Statement.{statement}

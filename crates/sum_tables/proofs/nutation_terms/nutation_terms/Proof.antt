@@ -1,4 +1,4 @@
--- `sums::nutation_terms::nutation_terms` is the table of specs, entry by entry.
+-- `sum_tables::nutation_terms::nutation_terms` is the table of specs, entry by entry.
 use mathlib.Core.Path.{refl}
 use Rattle.sum_rules.specs.NutationTerms.{nutation-terms}
 use Rattle.sum_tables.proofs.nutation_terms.nutation_terms.Statement.{statement}

@@ -1,4 +1,4 @@
--- `sums::sun_terms::l5` is the table of specs, entry by entry.
+-- `sum_tables::sun_terms::l5` is the table of specs, entry by entry.
 use mathlib.Core.Path.{refl}
 use Rattle.sum_rules.specs.SunTerms.{L5}
 use Rattle.sum_tables.proofs.sun_terms.l5.Statement.{statement}

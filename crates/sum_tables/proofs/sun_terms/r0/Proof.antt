@@ -1,4 +1,4 @@
--- `sums::sun_terms::r0` is the table of specs, entry by entry.
+-- `sum_tables::sun_terms::r0` is the table of specs, entry by entry.
 use mathlib.Core.Path.{refl}
 use Rattle.sum_rules.specs.SunTerms.{R0}
 use Rattle.sum_tables.proofs.sun_terms.r0.Statement.{statement}

@@ -1,4 +1,4 @@
--- `sums::sun_terms::r2` is the table of specs, entry by entry.
+-- `sum_tables::sun_terms::r2` is the table of specs, entry by entry.
 use mathlib.Core.Path.{refl}
 use Rattle.sum_rules.specs.SunTerms.{R2}
 use Rattle.sum_tables.proofs.sun_terms.r2.Statement.{statement}

@@ -1,0 +1,2 @@
+pub mod ArctangentLaws
+pub mod LimbLaws

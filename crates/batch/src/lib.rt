@@ -1,0 +1,2 @@
+// Many samples from one start.
+pub mod samples;

@@ -1,0 +1,13 @@
+-- `boundary::codes::or_next` meets its contract.
+use borrow.Author.Tests.{eq-eqb, ne-eqb}
+use Rattle.boundary.proofs.codes.or_next.Statement.{statement}
+use Rattle.boundary.proofs.codes.or_next.Tie as tie
+
+returns : tie.Need-returns
+returns c = simp (eq-eqb _ _ (c .if1 .taken))
+
+returns-2 : tie.Need-returns-2
+returns-2 c = simp (ne-eqb _ _ (c .if1 .left))
+
+pub or-next-spec : {M : Type 1} → statement M
+or-next-spec = tie.close (tie.spec returns returns-2)

@@ -1,0 +1,73 @@
+-- The codes of a body and of an air, and the refusals outside 01's numbers: no request can be formed, so they are given before all others.
+use mathlib.Core.Bool.{cond}
+use mathlib.Core.List.{_∷_}
+use Prim.Native.Nat.{ℕ}
+use lib.Dec.{eqb, leb}
+use lib.Ieee.{Float}
+use lib.IntN.{natAbs, pos, ℤ}
+use Rattle.number_rules.specs.Angle.{quarter-turn}
+use Rattle.sum_rules.specs.Instant.{furthest, minus}
+use Rattle.calendar.specs.Refusal.{_else_, _unless_, first}
+use Rattle.numbers.specs.Whole.{between}
+use Rattle.refraction.specs.Air.{air-refusals}
+use Rattle.refraction.specs.declared.air.Air.{Air}
+use Rattle.refraction.specs.declared.air.Air.the-variants.{Measured, None, Standard}
+use Rattle.sky_vectors.specs.declared.geocentric.Body.{Body}
+use Rattle.sky_vectors.specs.declared.geocentric.Body.the-variants.{Moon, Sun}
+
+abbrev pub unknown-body : ℕ
+unknown-body = 101
+
+abbrev pub unknown-air : ℕ
+unknown-air = 102
+
+abbrev pub no-elevation : ℕ
+no-elevation = 103
+
+abbrev pub out-of-reach : ℕ
+out-of-reach = 104
+
+-- the codes of a body
+abbrev pub sun : ℕ
+sun = 0
+
+abbrev pub moon : ℕ
+moon = 1
+
+abbrev pub body-of : ℕ → Body
+body-of code = cond (eqb code sun) Sun Moon
+
+abbrev pub body-refusal : ℕ → ℕ
+body-refusal code = unknown-body unless leb code moon
+
+-- the kinds of an air
+abbrev pub none : ℕ
+none = 0
+
+abbrev pub standard : ℕ
+standard = 1
+
+abbrev pub measured : ℕ
+measured = 2
+
+abbrev pub air-of : ℕ → Float → Float → Air
+air-of kind pressure temperature = cond (eqb kind none) None (cond (eqb kind standard) Standard (Measured pressure temperature))
+
+abbrev pub kind-refusal : ℕ → ℕ
+kind-refusal kind = unknown-air unless leb kind measured
+
+-- the body is judged first
+abbrev pub code-refusal : ℕ → ℕ → ℕ
+code-refusal body kind = body-refusal body else kind-refusal kind
+
+-- within ±90 degrees
+abbrev pub elevation-refusal : ℤ → ℕ
+elevation-refusal e = no-elevation unless between (minus quarter-turn) e (pos quarter-turn)
+
+-- an unknown air, an elevation beyond ±90 degrees, then 10 and 11
+abbrev pub refraction-refusal : ℤ → ℕ → Float → Float → ℕ
+refraction-refusal e air pressure temperature = first (kind-refusal air ∷ elevation-refusal e ∷ air-refusals (air-of air pressure temperature))
+
+-- no further from 2000 than the sums reach
+abbrev pub reach-refusal : ℤ → ℕ
+reach-refusal n = out-of-reach unless leb (natAbs n) furthest

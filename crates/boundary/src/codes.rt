@@ -1,0 +1,84 @@
+// The body and the air of a request, which C gives by a code. An unknown code is read as the last one, and refused before that matters.
+use calendar::refusal::Verdict;
+use calendar::refusal::number_of;
+use refraction::air::Air;
+use sky_vectors::geocentric::Body;
+ghost use mathlib.Core.Path.{_≡_};
+ghost use Rattle.calendar.specs.Refusal.{_else_, verdict-number};
+ghost use Rattle.boundary.specs.Codes.{air-of, body-of, body-refusal, code-refusal, kind-refusal};
+
+// The refusals outside 01's numbers.
+pub const UNKNOWN_BODY: u32 = 101;
+
+pub const UNKNOWN_AIR: u32 = 102;
+
+pub const NO_ELEVATION: u32 = 103;
+
+pub const OUT_OF_REACH: u32 = 104;
+
+// The codes of a body.
+const SUN: u32 = 0;
+
+const MOON: u32 = 1;
+
+// The kinds of an air.
+const NONE: u32 = 0;
+
+const STANDARD: u32 = 1;
+
+const MEASURED: u32 = 2;
+
+pub fn body_of(code: u32) -> Body
+    ensures { λ r. ⌜ r ≡ body-of code ⌝ }
+{
+    if code == SUN { Body::Sun } else { Body::Moon }
+}
+
+pub fn body_refusal(code: u32) -> u32
+    ensures { λ r. ⌜ r ≡ body-refusal code ⌝ }
+{
+    if code <= MOON { 0 } else { UNKNOWN_BODY }
+}
+
+// Pressure in mbar and temperature in °C, both read only where the kind is measured.
+pub fn air_of(kind: u32, pressure: f64, temperature: f64) -> Air
+    ensures { λ r. ⌜ r ≡ air-of kind pressure temperature ⌝ }
+{
+    if kind == NONE {
+        Air::None
+    } else if kind == STANDARD {
+        Air::Standard
+    } else {
+        Air::Measured(pressure, temperature)
+    }
+}
+
+pub fn kind_refusal(kind: u32) -> u32
+    ensures { λ r. ⌜ r ≡ kind-refusal kind ⌝ }
+{
+    if kind <= MEASURED { 0 } else { UNKNOWN_AIR }
+}
+
+// One number, or the next where it is 0.
+pub fn or_next(refusal: u32, next: u32) -> u32
+    ensures { λ r. ⌜ r ≡ refusal else next ⌝ }
+{
+    if refusal == 0 { next } else { refusal }
+}
+
+// The body is judged first.
+pub fn code_refusal(body: u32, kind: u32) -> u32
+    ensures { λ r. ⌜ r ≡ code-refusal body kind ⌝ }
+{
+    or_next(body_refusal(body), kind_refusal(kind))
+}
+
+// A verdict as C is told of it.
+pub fn number_in(verdict: Verdict) -> u32
+    ensures { λ r. ⌜ r ≡ verdict-number verdict ⌝ }
+{
+    match verdict {
+        Verdict::Passed => 0,
+        Verdict::Refused(refusal) => number_of(refusal),
+    }
+}

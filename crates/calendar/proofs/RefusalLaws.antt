@@ -1,0 +1,123 @@
+-- No two refusals have one number, and none has 0. A number is read back as its refusal; two refusals with one number are read back from the same number.
+use mathlib.Core.Bool.{Bool, cond, false, true}
+use mathlib.Core.List.{List, [], _++_, _∷_}
+use mathlib.Core.Path.{_∙_, _≡_, ap, refl, sym}
+use Prim.Native.Nat.{_<_, suc, ℕ}
+use native.Mathlib.Omega.{arith}
+use lib.Dec.{eqb, lit<}
+use borrow.Author.Tests.{eqb-false, eqb-true}
+use Rattle.calendar.specs.Refusal.{OneAnswer, VerdictsTold, _else_, _unless_, first, number}
+use Rattle.calendar.specs.declared.refusal.Refusal.{Refusal}
+use Rattle.calendar.specs.declared.refusal.Refusal.the-variants as Of
+use Rattle.calendar.specs.declared.refusal.Verdict.{Verdict}
+use Rattle.calendar.specs.declared.refusal.Verdict.the-variants as Says
+
+-- what is told apart by its numbers is one answer
+pub one-answer : {A B : Type 0} {numbers : A → B} → ((x y : A) → numbers x ≡ numbers y → x ≡ y) → {answer : A} {rule : B} → numbers answer ≡ rule → OneAnswer numbers rule answer
+one-answer tells {answer} e = record { equal = e; only = λ other f. tells other answer (f ∙ sym e) }
+
+numbered : ℕ → Refusal
+numbered n =
+    cond (eqb n 1) Of.Year (cond (eqb n 2) Of.Month (cond (eqb n 3) Of.Day (cond (eqb n 4) Of.Clock (cond (eqb n 5) Of.Ut1 (cond (eqb n 6) Of.DeltaT
+    (cond (eqb n 7) Of.Longitude (cond (eqb n 8) Of.Latitude (cond (eqb n 9) Of.Height (cond (eqb n 10) Of.Pressure (cond (eqb n 11) Of.Temperature
+    (cond (eqb n 12) Of.ShortBuffer (cond (eqb n 14) Of.Opposite (cond (eqb n 15) Of.NotReduced Of.NotALine)))))))))))))
+
+read-back : (refusal : Refusal) → numbered (number refusal) ≡ refusal
+unfolding numbered
+read-back Of.Year = refl
+read-back Of.Month = refl
+read-back Of.Day = refl
+read-back Of.Clock = refl
+read-back Of.Ut1 = refl
+read-back Of.DeltaT = refl
+read-back Of.Longitude = refl
+read-back Of.Latitude = refl
+read-back Of.Height = refl
+read-back Of.Pressure = refl
+read-back Of.Temperature = refl
+read-back Of.ShortBuffer = refl
+read-back Of.Opposite = refl
+read-back Of.NotReduced = refl
+read-back Of.NotALine = refl
+
+pub number-tells : (x y : Refusal) → number x ≡ number y → x ≡ y
+number-tells x y e = sym (read-back x) ∙ ap numbered e ∙ read-back y
+
+pub number-above : (refusal : Refusal) → 0 < number refusal
+number-above Of.Year = lit< tt
+number-above Of.Month = lit< tt
+number-above Of.Day = lit< tt
+number-above Of.Clock = lit< tt
+number-above Of.Ut1 = lit< tt
+number-above Of.DeltaT = lit< tt
+number-above Of.Longitude = lit< tt
+number-above Of.Latitude = lit< tt
+number-above Of.Height = lit< tt
+number-above Of.Pressure = lit< tt
+number-above Of.Temperature = lit< tt
+number-above Of.ShortBuffer = lit< tt
+number-above Of.Opposite = lit< tt
+number-above Of.NotReduced = lit< tt
+number-above Of.NotALine = lit< tt
+
+-- an answer that is not refused is no refusal
+pub never-none : (refusal : Refusal) → number refusal ≡ 0 → ⊥
+never-none refusal e = omega (arith, number-above refusal)
+
+pub verdicts-told : VerdictsTold
+verdicts-told Says.Passed Says.Passed same = refl
+verdicts-told Says.Passed (Says.Refused refusal) same = absurd (never-none refusal (sym same))
+verdicts-told (Says.Refused refusal) Says.Passed same = absurd (never-none refusal same)
+verdicts-told (Says.Refused x) (Says.Refused y) same = ap Says.Refused (number-tells x y same)
+
+-- 13 is none of them
+pub never-late : (refusal : Refusal) → number refusal ≡ 13 → ⊥
+unfolding numbered
+never-late refusal e = clash refusal (sym (read-back refusal) ∙ ap numbered e) e
+  where
+    -- 13 is read as the last case, whose number is 16
+    clash : (refusal : Refusal) → refusal ≡ Of.NotALine → number refusal ≡ 13 → ⊥
+    clash refusal is e = let same : _≡_ {A = ℕ} 16 13 = sym (ap number is) ∙ e in omega (arith, same)
+
+-- ---- a check, and a list of checks
+pub passes : (n : ℕ) (b : Bool) → suc n unless b ≡ 0 → b ≡ true
+passes n true e = refl
+passes n false e = absurd (omega arith)
+
+else-none : (n m : ℕ) → n else m ≡ 0 → (n ≡ 0) × (m ≡ 0)
+else-none n m e = go (eqb n 0) (eqb-true n 0) (eqb-false n 0) e
+  where
+    go : (b : Bool) → (b ≡ true → n ≡ 0) → (b ≡ false → n ≡ 0 → ⊥) → cond b m n ≡ 0 → (n ≡ 0) × (m ≡ 0)
+    go true is isn't e = (is refl, e)
+    go false is isn't e = absurd (isn't refl e)
+
+pub none : (n : ℕ) (rest : List ℕ) → first (n ∷ rest) ≡ 0 → (n ≡ 0) × (first rest ≡ 0)
+unfolding first
+none n rest e = else-none n (first rest) e
+
+pub first-append : (xs ys : List ℕ) → first (xs ++ ys) ≡ first xs else first ys
+unfolding first
+first-append [] ys = refl
+first-append (n ∷ xs) ys = go (eqb n 0) refl (first-append xs ys)
+  where
+    go : (b : Bool) → eqb n 0 ≡ b → first (xs ++ ys) ≡ first xs else first ys → n else first (xs ++ ys) ≡ (n else first xs) else first ys
+    go true e rest = rw e rest
+    go false e rest = rw (e, e) refl
+
+pub none-append : (xs ys : List ℕ) → first (xs ++ ys) ≡ 0 → (first xs ≡ 0) × (first ys ≡ 0)
+none-append xs ys e = else-none (first xs) (first ys) (sym (first-append xs ys) ∙ e)
+
+pub first-one : (n : ℕ) → first (n ∷ []) ≡ n
+unfolding first
+first-one n = go (eqb n 0) (eqb-true n 0)
+  where
+    go : (b : Bool) → (b ≡ true → n ≡ 0) → cond b 0 n ≡ n
+    go true none = sym (none refl)
+    go false none = refl
+
+-- what `or_else` gave of two lists of checks, and what one check gave
+pub joined : {r v w : ℕ} (xs ys : List ℕ) → r ≡ v else w → v ≡ first xs → w ≡ first ys → r ≡ first (xs ++ ys)
+joined xs ys e f g = e ∙ (λ i. f i else g i) ∙ sym (first-append xs ys)
+
+pub alone : {r n : ℕ} → r ≡ n → r ≡ first (n ∷ [])
+alone {r} {n} e = e ∙ sym (first-one n)

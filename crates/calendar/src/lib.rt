@@ -1,0 +1,3 @@
+// Dates and refusals: the day count of a Gregorian date, and 01's numbered refusals.
+pub mod day_count;
+pub mod refusal;

@@ -1,0 +1,72 @@
+// 01's refusals, a case for each number, so that no other number can be given.
+ghost use mathlib.Core.Path.{_≡_};
+ghost use Rattle.calendar.specs.Refusal.{number, verdict-number, _unless_, _else_};
+
+// 13 is not among them: it carries an index, and has a case of its own in a batch's answer.
+pub enum Refusal {
+    Year,
+    Month,
+    Day,
+    Clock,
+    Ut1,
+    DeltaT,
+    Longitude,
+    Latitude,
+    Height,
+    Pressure,
+    Temperature,
+    ShortBuffer,
+    Opposite,
+    NotReduced,
+    NotALine,
+}
+
+// What a check says.
+pub enum Verdict {
+    Passed,
+    Refused(Refusal),
+}
+
+// 01's number.
+pub fn number_of(refusal: Refusal) -> u32
+    ensures { λ r. ⌜ r ≡ number refusal ⌝ }
+{
+    match refusal {
+        Refusal::Year => 1,
+        Refusal::Month => 2,
+        Refusal::Day => 3,
+        Refusal::Clock => 4,
+        Refusal::Ut1 => 5,
+        Refusal::DeltaT => 6,
+        Refusal::Longitude => 7,
+        Refusal::Latitude => 8,
+        Refusal::Height => 9,
+        Refusal::Pressure => 10,
+        Refusal::Temperature => 11,
+        Refusal::ShortBuffer => 12,
+        Refusal::Opposite => 14,
+        Refusal::NotReduced => 15,
+        Refusal::NotALine => 16,
+    }
+}
+
+// The refusal unless the check passes.
+pub fn unless(refusal: Refusal, passes: bool) -> Verdict
+    ensures { λ r. ⌜ verdict-number r ≡ number refusal unless passes ⌝ }
+{
+    if passes {
+        Verdict::Passed
+    } else {
+        Verdict::Refused(refusal)
+    }
+}
+
+// The first verdict where it refuses, otherwise the next.
+pub fn or_else(verdict: Verdict, next: Verdict) -> Verdict
+    ensures { λ r. ⌜ verdict-number r ≡ verdict-number verdict else verdict-number next ⌝ }
+{
+    match verdict {
+        Verdict::Passed => next,
+        Verdict::Refused(refusal) => Verdict::Refused(refusal),
+    }
+}

@@ -1,0 +1,3 @@
+pub mod HeadingLaws
+pub mod MiddleSize
+pub mod CasesHold

@@ -1,0 +1,2 @@
+// The middle of two azimuths.
+pub mod middle;

@@ -1,0 +1,3 @@
+// The air of a request, and how much it raises a body.
+pub mod air;
+pub mod formula;

@@ -1,0 +1,3 @@
+// A request's start and point: the checks 1 to 9, and the start's instant.
+pub mod point;
+pub mod start;
