@@ -14,7 +14,7 @@ use lib.ListN.{length, length-append}
 use lib.Seq.{length-take-le, take-all, take-append-le, take-at}
 use borrow.Author.Tests.{eq-eqb, leb-false, leb-true, ne-eqb}
 use Rattle.text.proofs.LineLaws.{too-long-line}
-use Rattle.line_answers.proofs.PlacesLineLaws.{too-long}
+use Rattle.line_answers.proofs.PlacesLineLaws.{too-long-places}
 use Rattle.line_answers.specs.PlacesLine.{no-request, place-line, places-line}
 use Rattle.line_answers.specs.Printed.{answer-line, newline}
 use Rattle.line_answers.specs.Sheet.{arguments-line, row-from, sheet-line, sheet-row}
@@ -77,7 +77,7 @@ long-sheet line h = ap (λ (numbers : Option (List ℤ)). answer-line arguments-
 
 long-places : (line : List ℕ) → line-room ≤ length line → places-line line ≡ answer-line place-line no-request
 unfolding places-line
-long-places line h = ap (answer-line place-line) (too-long line h)
+long-places line h = ap (answer-line place-line) (too-long-places line h)
 
 module _ (line : List ℕ) (long : line-room < length line) where
   kept-long : (form : Form) → line-answer form (kept line) ≡ line-answer form line

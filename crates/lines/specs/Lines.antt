@@ -7,7 +7,8 @@ use lib.Dec.{eqb}
 use lib.ListN.{length, take}
 use Rattle.text.specs.Cases.{bytes}
 use Rattle.text.specs.Decimal.{text-room}
-use Rattle.line_answers.specs.PlacesLine.{longest-request, places-line}
+use Rattle.line_answers.specs.BodyLine.{longest-request}
+use Rattle.line_answers.specs.PlacesLine.{places-line}
 use Rattle.line_answers.specs.Printed.{newline}
 use Rattle.line_answers.specs.Sheet.{sheet-line}
 use Rattle.lines.specs.declared.answers.Turn.{Turn}
