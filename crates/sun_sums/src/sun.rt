@@ -22,7 +22,7 @@ use sum_tables::sun_terms::r4;
 use sum_terms::instant::powers_at;
 ghost use mathlib.Core.Path.{_≡_};
 ghost use Prim.Native.Nat.{_≤_, _^_};
-ghost use lib.IntN.{pos, natAbs, _+ℤ_, _*ℤ_};
+ghost use lib.IntN.{natAbs, _+ℤ_, _*ℤ_};
 ghost use Rattle.arithmetic.specs.Floor.{⌊_÷_⌋};
 ghost use Rattle.number_rules.specs.SineTable.{sines};
 ghost use Rattle.sum_rules.specs.Instant.{furthest, millennium, u, Reached};

@@ -17,7 +17,7 @@ use Rattle.sky_vectors.specs.Observer.{radius}
 use Rattle.moon_sums.proofs.MoonSizes.{metres-least, moon-longitude-most}
 use Rattle.earth.proofs.NutationLaws.{Δψ-most}
 use Rattle.sum_rules.specs.Instant.{furthest}
-use Rattle.sum_rules.specs.Moon.{latitude, metres}
+use Rattle.sum_rules.specs.Moon.{latitude}
 use Rattle.sum_rules.specs.Moon as Moon
 use Rattle.sky_vectors.proofs.geocentric.moon_geocentric.Statement.{statement}
 use Rattle.sky_vectors.proofs.geocentric.moon_geocentric.Tie as tie

@@ -16,7 +16,7 @@ use Rattle.sky_vectors.specs.Geocentric.{sun-geocentric}
 use Rattle.sun_sums.proofs.SunSizes.{B-most, R-least, latitude-degrees-most, longitude-degrees-most}
 use Rattle.earth.proofs.NutationLaws.{Δψ-most}
 use Rattle.sum_rules.specs.Instant.{furthest}
-use Rattle.sum_rules.specs.Sun.{B, L, R, latitude-degrees, longitude-degrees}
+use Rattle.sum_rules.specs.Sun.{latitude-degrees, longitude-degrees}
 use Rattle.sum_rules.specs.Sun as Sun
 use Rattle.sky_vectors.proofs.geocentric.sun_geocentric.Statement.{statement}
 use Rattle.sky_vectors.proofs.geocentric.sun_geocentric.Tie as tie
