@@ -4,7 +4,7 @@ use std::path::Path;
 use std::process::exit;
 
 // Where the code has its polynomials, and where its tables.
-const CODE: [&str; 2] = ["crates/sums/src", "crates/sum_tables/src"];
+const CODE: [&str; 3] = ["crates/moon_sums/src", "crates/earth/src", "crates/sum_tables/src"];
 const TABLES: &str = "tests/tables";
 
 // The Sun's groups, which have the same names in the code, with the rows that 01 counts.

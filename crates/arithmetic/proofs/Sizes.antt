@@ -7,7 +7,7 @@ use native.Mathlib.Omega.{arith}
 use lib.Dec.{leb→le}
 use lib.IntN.{_*ℤ_, _+ℤ_, _-ℤ_, natAbs, negsuc, negℤ, pos, ℤ}
 use lib.Signed.{_≤ℤ_}
-use Rattle.arithmetic.proofs.Difference.{_⊞_, abs-parts, at-parts, ⟨_⟩}
+use Rattle.arithmetic.proofs.Difference.{#_, _⊞_, abs-parts, at-parts, by-le, ⊟_, ⟨_⟩}
 use Rattle.arithmetic.proofs.Integers.{solveℤ}
 use Rattle.arithmetic.proofs.Solver.{_:+_, _:-_, x0, x1}
 
@@ -47,3 +47,7 @@ at-most {j} {k} {z = negsuc n} h l = absurd (h .le)
 pub other-part : (x y z : ℤ) {m k : ℕ} → x +ℤ y ≡ z → natAbs z ≤ m → natAbs y ≤ k → natAbs x ≤ m + k
 other-part x y z {m} {k} e h l =
     subst (λ (w : ℤ). natAbs w ≤ m + k) (ap (λ (w : ℤ). w -ℤ y) (sym e) ∙ solveℤ (x0 :+ x1 :- x1) x0 (x ∷ y ∷ []) tt) (sub-bound z y h l)
+
+-- a whole number at most m below zero is not far below
+pub not-far-below : (z : ℤ) (m : ℕ) → natAbs z ≤ m → negℤ (pos m) ≤ℤ z
+not-far-below z m h = by-le (⊟ (# m)) ⟨ z ⟩ (omega (arith, abs-parts z, h))

@@ -8,7 +8,7 @@ use super::codes::or_next;
 use numbers::angle::Angle;
 use numbers::whole::is_between;
 use refraction::air::air_verdict;
-use sums::instant::is_within_reach;
+use sum_terms::instant::is_within_reach;
 ghost use mathlib.Core.Path.{_≡_};
 ghost use Rattle.boundary.specs.Codes.{elevation-refusal, reach-refusal, refraction-refusal};
 

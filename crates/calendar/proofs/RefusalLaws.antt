@@ -9,7 +9,6 @@ use borrow.Author.Tests.{eqb-false, eqb-true}
 use Rattle.calendar.specs.Refusal.{OneAnswer, VerdictsTold, _else_, _unless_, first, number}
 use Rattle.calendar.specs.declared.refusal.Refusal.{Refusal}
 use Rattle.calendar.specs.declared.refusal.Refusal.the-variants as Of
-use Rattle.calendar.specs.declared.refusal.Verdict.{Verdict}
 use Rattle.calendar.specs.declared.refusal.Verdict.the-variants as Says
 
 -- what is told apart by its numbers is one answer

@@ -1,4 +1,6 @@
 // The values that the reports print between an instant and a place.
+use earth::nutation::Nutation;
+use earth::nutation::nutation_at;
 use numbers::angle::Angle;
 use numbers::sine::sine_cosine_in;
 use numbers::sine_table::table;
@@ -15,9 +17,7 @@ use sky_vectors::place::place_towards;
 use sky_vectors::station::Point;
 use sky_vectors::station::runner_at;
 use sum_rules::instant::Powers;
-use sums::instant::powers_at;
-use sums::nutation::Nutation;
-use sums::nutation::nutation_at;
+use sum_terms::instant::powers_at;
 ghost use mathlib.Core.Path.{_≡_};
 ghost use Rattle.calendar.specs.Refusal.{first};
 ghost use Rattle.request.specs.Request.{instant, start-refusals, point-refusals};

@@ -7,7 +7,7 @@ use sky_vectors::place::direction_at;
 use sky_vectors::station::Runner;
 use sum_rules::instant::Instant;
 use sum_rules::instant::SECOND;
-use sums::instant::instant_at;
+use sum_terms::instant::instant_at;
 ghost use mathlib.Core.Path.{_≡_};
 ghost use Prim.Native.Nat.{_<_};
 ghost use lib.ListN.{length};

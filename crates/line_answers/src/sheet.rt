@@ -2,12 +2,12 @@
 use super::refused::refusal_text;
 use calendar::refusal::Refusal;
 use calendar::refusal::Verdict;
+use earth::sidereal::mean_at;
 use request::start::Start;
 use request::start::instant_of;
 use request::start::start_verdict;
 use sum_rules::instant::Instant;
-use sums::instant::powers_at;
-use sums::sidereal::mean_at;
+use sum_terms::instant::powers_at;
 use text::decimal::Text;
 use text::decimal::appended_byte;
 use text::decimal::appended_number;
@@ -55,7 +55,7 @@ fn arguments_at(instant: Instant) -> Arguments
     requires { ⌜ Reachable instant ⌝ }
     ensures { λ r. ⌜ r ≡ arguments instant ⌝ }
 {
-    let moon = sums::moon::arguments(powers_at(instant.tt));
+    let moon = moon_sums::moon::arguments(powers_at(instant.tt));
     let sidereal = mean_at(powers_at(instant.ut)) as i64;
     Arguments {
         tt: instant.tt,

@@ -1,7 +1,7 @@
 // Whole numbers on 64-bit integers: division rounded down, and a product that passes 64 bits.
 ghost use mathlib.Core.Path.{_≡_};
-ghost use Prim.Native.Nat.{_<_, _^_};
-ghost use lib.IntN.{pos, natAbs, _*ℤ_};
+ghost use Prim.Native.Nat.{_<_};
+ghost use lib.IntN.{natAbs, _*ℤ_};
 ghost use lib.Signed.{mag};
 ghost use Rattle.arithmetic.specs.Floor.{⌊_÷_⌋, _modulo_};
 ghost use Rattle.numbers.specs.Whole.{sign, MulDiv, between};

@@ -9,7 +9,7 @@ use numbers::whole::is_between;
 use sum_rules::instant::DAY;
 use sum_rules::instant::Instant;
 use sum_rules::instant::SECOND;
-use sums::instant::instant_at;
+use sum_terms::instant::instant_at;
 ghost use mathlib.Core.Path.{_≡_};
 ghost use mathlib.Core.Bool.{true};
 ghost use Rattle.calendar.specs.DayCount.{count-answer};

@@ -10,7 +10,8 @@ use Rattle.sky_vectors.specs.Geocentric.{geocentric, moon-geocentric, su
 use Rattle.sky_vectors.specs.Observer.{radius}
 use Rattle.sky_vectors.specs.SkyRange.{parallax-limit}
 use Rattle.sky_vectors.specs.declared.geocentric.Body.{Body}
-use Rattle.sums.proofs.Distances.{R-least, metres-least}
+use Rattle.sun_sums.proofs.SunSizes.{R-least}
+use Rattle.moon_sums.proofs.MoonSizes.{metres-least}
 use Rattle.sum_rules.specs.Instant.{furthest}
 use Rattle.sum_rules.specs.Moon as Moon
 use Rattle.sum_rules.specs.Sun as Sun

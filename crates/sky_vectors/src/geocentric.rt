@@ -1,12 +1,12 @@
 // Where the Sun and the Moon stand, seen from the Earth's centre.
 use super::observer::RADIUS;
+use moon_sums::moon::moon_at;
 use numbers::angle::Angle;
 use numbers::whole::floor_div;
 use sum_rules::instant::Powers;
-use sums::moon::moon_at;
-use sums::sun::latitude_degrees;
-use sums::sun::longitude_degrees;
-use sums::sun::sun_at;
+use sun_sums::sun::latitude_degrees;
+use sun_sums::sun::longitude_degrees;
+use sun_sums::sun::sun_at;
 ghost use mathlib.Core.Path.{_≡_};
 ghost use Rattle.number_rules.specs.SineTable.{sines};
 ghost use Rattle.sum_rules.specs.Instant.{Reached};

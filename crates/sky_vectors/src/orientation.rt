@@ -1,8 +1,8 @@
 // How the sky is turned at a runner's longitude.
+use earth::nutation::Nutation;
+use earth::nutation::obliquity_at;
+use earth::sidereal::apparent_at;
 use sum_rules::instant::Powers;
-use sums::nutation::Nutation;
-use sums::nutation::obliquity_at;
-use sums::sidereal::apparent_at;
 ghost use mathlib.Core.Path.{_≡_};
 ghost use Prim.Native.Nat.{_≤_};
 ghost use lib.IntN.{natAbs};

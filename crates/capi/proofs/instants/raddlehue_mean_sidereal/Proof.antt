@@ -8,7 +8,7 @@ use Rattle.number_rules.specs.Angle.{full-turn}
 use Rattle.numbers.proofs.Machine.{any, nat-fits}
 use Rattle.sum_rules.specs.Sidereal.{mean}
 use Rattle.sum_rules.specs.declared.instant.Powers.{Powers}
-use Rattle.sums.proofs.InstantLaws.{mean-most, reached}
+use Rattle.sum_terms.proofs.InstantLaws.{mean-most, reached}
 use Rattle.capi.proofs.InstantLaws.{near, out-of-reach, within-reach}
 use Rattle.capi.proofs.instants.raddlehue_mean_sidereal.Statement.{statement}
 use Rattle.capi.proofs.instants.raddlehue_mean_sidereal.Tie as tie

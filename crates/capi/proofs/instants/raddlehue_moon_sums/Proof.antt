@@ -9,7 +9,7 @@ use native.Mathlib.Omega.{arith}
 use Rattle.number_rules.specs.Angle.{full-turn}
 use Rattle.numbers.proofs.Machine.{any, nat-fits, passed}
 use Rattle.sum_rules.specs.Moon.{latitude, longitude, metres}
-use Rattle.sums.proofs.PlaceSizes.{moon-longitude-most}
+use Rattle.moon_sums.proofs.MoonSizes.{moon-longitude-most}
 use Rattle.capi.specs.Instants.{moon-values}
 use Rattle.capi.proofs.InstantLaws.{near, out-of-reach, within-reach}
 use Rattle.capi.proofs.instants.raddlehue_moon_sums.Statement.{statement}

@@ -10,8 +10,8 @@ use Rattle.numbers.proofs.Machine.{Mirror, any, asked, passed, told}
 use Rattle.sum_rules.specs.Instant.{furthest}
 use Rattle.sum_rules.specs.Nutation.{mean-obliquity, obliquity, Δε, Δψ}
 use Rattle.sum_rules.specs.declared.instant.Powers.{Powers}
-use Rattle.sums.proofs.InstantLaws.{reached}
-use Rattle.sums.proofs.NutationLaws.{Δε-most}
+use Rattle.sum_terms.proofs.InstantLaws.{reached}
+use Rattle.earth.proofs.NutationLaws.{Δε-most}
 use Rattle.capi.specs.Instants.{nutation-values}
 use Rattle.capi.proofs.InstantLaws as At
 use Rattle.capi.proofs.instants.raddlehue_nutation.Statement.{statement}

@@ -2,8 +2,8 @@
 use mathlib.Core.Path.{_∙_, ap₂, subst⁻¹}
 use Rattle.number_rules.specs.Angle.{quarter-turn}
 use Rattle.sum_rules.specs.Instant.{minus}
-use Rattle.sky_vectors.specs.Place.{from-centre, place-towards}
-use Rattle.sky_vectors.specs.SkyRange.{SmallVector, direction-limit}
+use Rattle.sky_vectors.specs.Place.{place-towards}
+use Rattle.sky_vectors.specs.SkyRange.{SmallVector}
 use Rattle.numbers.proofs.SineCosineLaws.{gave-one-angle, gave-sine-cosine}
 use Rattle.sky_vectors.proofs.SkySizes.{centre-small, widen}
 use borrow.Author.Needs.{needs}

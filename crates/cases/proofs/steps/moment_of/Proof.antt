@@ -4,7 +4,7 @@ use borrow.Author.Needs.{needs}
 use Rattle.numbers.proofs.Machine.{Mirror, asked, field}
 use Rattle.request.proofs.RequestLaws.{start-reachable}
 use Rattle.sky_vectors.specs.SkyRange.{Reachable}
-use Rattle.sums.proofs.InstantLaws.{reached}
+use Rattle.sum_terms.proofs.InstantLaws.{reached}
 use Rattle.sum_rules.specs.Instant.{powers}
 use Rattle.cases.proofs.steps.moment_of.Statement.{statement}
 use Rattle.cases.proofs.steps.moment_of.Tie as tie

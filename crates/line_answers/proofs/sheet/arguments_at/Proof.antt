@@ -6,7 +6,7 @@ use lib.IntN.{pos, ℤ}
 use Rattle.numbers.proofs.Machine.{Mirror, field, from-nat, nat-fits, told}
 use Rattle.number_rules.specs.Angle.{full-turn}
 use Rattle.line_answers.specs.Sheet.{arguments}
-use Rattle.sums.proofs.InstantLaws.{mean-most, reached, value-small}
+use Rattle.sum_terms.proofs.InstantLaws.{mean-most, reached, value-small}
 use Rattle.sum_rules.specs.Instant.{powers}
 use Rattle.sum_rules.specs.Moon as Moon
 use Rattle.sum_rules.specs.Moon.{argument}

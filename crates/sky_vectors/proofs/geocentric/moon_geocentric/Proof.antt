@@ -14,11 +14,10 @@ use Rattle.numbers.proofs.Machine.{Mirror, _⊕_, arg, cast-up, fits, from-nat,
 use Rattle.number_rules.specs.Angle.{full-turn}
 use Rattle.sky_vectors.specs.Geocentric.{moon-geocentric}
 use Rattle.sky_vectors.specs.Observer.{radius}
-use Rattle.sums.proofs.Distances.{metres-least}
-use Rattle.sums.proofs.NutationLaws.{Δψ-most}
-use Rattle.sums.proofs.PlaceSizes.{moon-longitude-most}
+use Rattle.moon_sums.proofs.MoonSizes.{metres-least, moon-longitude-most}
+use Rattle.earth.proofs.NutationLaws.{Δψ-most}
 use Rattle.sum_rules.specs.Instant.{furthest}
-use Rattle.sum_rules.specs.Moon.{latitude, metres}
+use Rattle.sum_rules.specs.Moon.{latitude}
 use Rattle.sum_rules.specs.Moon as Moon
 use Rattle.sky_vectors.proofs.geocentric.moon_geocentric.Statement.{statement}
 use Rattle.sky_vectors.proofs.geocentric.moon_geocentric.Tie as tie

@@ -13,11 +13,10 @@ use Rattle.arithmetic.proofs.Sizes.{at-least}
 use Rattle.numbers.proofs.Machine.{Mirror, _⊕_, arg, asked, cast-up, fits, gave, kept, lit, minus, passed, small-floor-gave, told}
 use Rattle.number_rules.specs.Angle.{half-turn}
 use Rattle.sky_vectors.specs.Geocentric.{sun-geocentric}
-use Rattle.sums.proofs.Distances.{R-least}
-use Rattle.sums.proofs.NutationLaws.{Δψ-most}
-use Rattle.sums.proofs.PlaceSizes.{B-most, latitude-degrees-most, longitude-degrees-most}
+use Rattle.sun_sums.proofs.SunSizes.{B-most, R-least, latitude-degrees-most, longitude-degrees-most}
+use Rattle.earth.proofs.NutationLaws.{Δψ-most}
 use Rattle.sum_rules.specs.Instant.{furthest}
-use Rattle.sum_rules.specs.Sun.{B, L, R, latitude-degrees, longitude-degrees}
+use Rattle.sum_rules.specs.Sun.{latitude-degrees, longitude-degrees}
 use Rattle.sum_rules.specs.Sun as Sun
 use Rattle.sky_vectors.proofs.geocentric.sun_geocentric.Statement.{statement}
 use Rattle.sky_vectors.proofs.geocentric.sun_geocentric.Tie as tie

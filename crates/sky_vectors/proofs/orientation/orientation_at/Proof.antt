@@ -6,8 +6,8 @@ use mir.Syntax.{w64}
 use mir.Val.{ofZ, toZ}
 use Rattle.numbers.proofs.Machine.{Mirror, _⊕_, arg, asked, fits, gave, kept, passed, told}
 use Rattle.sky_vectors.specs.Orientation.{orientation}
-use Rattle.sums.proofs.NutationLaws.{Δε-most, Δψ-most}
-use Rattle.sums.proofs.PlaceSizes.{apparent-most}
+use Rattle.earth.proofs.NutationLaws.{Δε-most, Δψ-most}
+use Rattle.earth.proofs.SiderealLaws.{apparent-most}
 use Rattle.sum_rules.specs.Instant.{furthest}
 use Rattle.sum_rules.specs.Nutation.{mean-obliquity, obliquity, Δψ}
 use Rattle.sum_rules.specs.Sidereal.{apparent}

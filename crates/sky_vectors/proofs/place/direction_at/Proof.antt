@@ -15,7 +15,7 @@ use Rattle.sky_vectors.specs.SkyRange.{Reachable, Standing, parallax-lim
 use Rattle.sky_vectors.specs.declared.geocentric.Body.{Body}
 use Rattle.sky_vectors.specs.declared.geocentric.Geocentric.{Geocentric}
 use Rattle.sky_vectors.specs.declared.station.Runner.{Runner}
-use Rattle.sums.proofs.InstantLaws.{reached}
+use Rattle.sum_terms.proofs.InstantLaws.{reached}
 use Rattle.sum_rules.specs.Instant.{Reached, powers}
 use Rattle.sum_rules.specs.declared.instant.Instant.{Instant}
 use Rattle.sky_vectors.proofs.place.direction_at.Statement.{statement}

@@ -1,0 +1,2 @@
+pub mod NutationLaws
+pub mod SiderealLaws

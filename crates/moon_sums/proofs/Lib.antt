@@ -1,0 +1,2 @@
+pub mod MoonLaws
+pub mod MoonSizes

@@ -1,0 +1,2 @@
+// The Moon's periodic sums.
+pub mod moon;

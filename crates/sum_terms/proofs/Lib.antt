@@ -1,0 +1,5 @@
+pub mod InstantLaws
+pub mod TableLaws
+pub mod NarrowMirror
+pub mod SumLoop
+pub mod TermLaws

@@ -1,4 +1,0 @@
-pub mod TermRange
-pub mod MoonRange
-pub mod SunRange
-pub mod NutationRange

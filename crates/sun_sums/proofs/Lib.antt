@@ -1,0 +1,2 @@
+pub mod SunLaws
+pub mod SunSizes

@@ -1,0 +1,2 @@
+// The Sun's periodic sums.
+pub mod sun;
