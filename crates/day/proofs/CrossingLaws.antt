@@ -1,6 +1,6 @@
--- The first minute of an event: the two claims on what is given, for any test; that the entries of the curve decide the event; and that no minute is both a rise and a set.
+-- The first minute of an event: the two claims on what is given, for any test; that the entries of the curve decide the event; that no minute is both a rise and a set, and that a day without either stays on one side.
 use mathlib.Core.Bool.{Bool, _&&_, cond, false, true}
-use mathlib.Core.Path.{_≡_, ap, refl, subst}
+use mathlib.Core.Path.{_∙_, _≡_, ap, refl, subst}
 use Prim.Native.Nat.{_<_, suc, zero, ℕ}
 use native.Mathlib.Decide.{decLt}
 use native.Mathlib.Nat.{le-of-lt, le-refl}
@@ -12,7 +12,7 @@ use borrow.Author.Tests.{le-ltb, lt-ltb}
 use Rattle.sum_rules.specs.Instant.{first-day}
 use Rattle.sky_vectors.specs.declared.geocentric.Body.{Body}
 use Rattle.sky_vectors.specs.declared.station.Point.{Point}
-use Rattle.day.specs.Claims.{EveryFirstOrNone, First, FirstOrNone, NeverTogether, Nowhere}
+use Rattle.day.specs.Claims.{EveryFirstOrNone, First, FirstOrNone, NeverTogether, Nowhere, OneSide}
 use Rattle.day.specs.Crossing.{CrossingNumbers, at-minute, at-none, crosses, first-minute, has-before, is-at, is-up, up-at, up-before}
 use Rattle.day.specs.Curve.{curve, elevation-on, minutes}
 use Rattle.day.specs.Date.{days}
@@ -121,3 +121,17 @@ never-together date body point m rise set = go (has-before date m) (up-before da
     go true true is rise set = clash rise refl
     go true false is rise set = clash set refl
     go false was is rise set = clash rise refl
+
+-- ---- without either, every minute is on the side of the first
+unchanged : (was is : Bool) → crosses Rise was is ≡ false → crosses Set was is ≡ false → is ≡ was
+unchanged true true rise set = refl
+unchanged true false rise set = absurd (clash refl set)
+unchanged false true rise set = absurd (clash refl rise)
+unchanged false false rise set = refl
+
+pub one-side : OneSide
+unfolding is-at
+one-side date body point no-rise no-set zero h = refl
+one-side date body point no-rise no-set (suc m) h =
+    unchanged (up-at date body point m) (up-at date body point (suc m)) (no-rise (suc m) h) (no-set (suc m) h)
+    ∙ one-side date body point no-rise no-set m (omega arith)

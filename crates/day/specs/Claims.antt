@@ -6,7 +6,7 @@ use lib.IntN.{_-ℤ_, pos}
 use Rattle.request.specs.Request.{instant}
 use Rattle.sky_vectors.specs.declared.geocentric.Body.{Body}
 use Rattle.sky_vectors.specs.declared.station.Point.{Point}
-use Rattle.day.specs.Crossing.{at-minute, at-none, first-minute, is-at}
+use Rattle.day.specs.Crossing.{at-minute, at-none, first-minute, is-at, up-at}
 use Rattle.day.specs.Curve.{minute-of, minutes}
 use Rattle.day.specs.Date.{clock, days}
 use Rattle.day.specs.declared.crossing.Event.{Event}
@@ -50,3 +50,9 @@ EveryFirstOrNone = (event : Event) (date : Date) (body : Body) (point : Point) �
 -- a rise and a set never fall on one minute
 abbrev pub NeverTogether : Type 0
 NeverTogether = (date : Date) (body : Body) (point : Point) (m : ℕ) → is-at Rise date body point m ≡ true → is-at Set date body point m ≡ true → ⊥
+
+-- where there is neither, the whole curve lies on one side of the threshold, so that its first entry tells a polar day from a polar night
+abbrev pub OneSide : Type 0
+OneSide =
+    (date : Date) (body : Body) (point : Point) → Nowhere (is-at Rise date body point) → Nowhere (is-at Set date body point)
+    → (m : ℕ) → m < minutes → up-at date body point m ≡ up-at date body point 0
