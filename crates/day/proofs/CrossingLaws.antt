@@ -12,7 +12,7 @@ use borrow.Author.Tests.{le-ltb, lt-ltb}
 use Rattle.sum_rules.specs.Instant.{first-day}
 use Rattle.sky_vectors.specs.declared.geocentric.Body.{Body}
 use Rattle.sky_vectors.specs.declared.station.Point.{Point}
-use Rattle.day.specs.Claims.{EveryFirstOrNone, First, FirstOrNone, NeverTogether, Nowhere, OneSide}
+use Rattle.day.specs.Claims.{First, FirstOrNone, NeverTogether, Nowhere, OneSide}
 use Rattle.day.specs.Crossing.{CrossingNumbers, at-minute, at-none, crosses, first-minute, has-before, is-at, is-up, up-at, up-before}
 use Rattle.day.specs.Curve.{curve, elevation-on, minutes}
 use Rattle.day.specs.Date.{days}
@@ -71,9 +71,6 @@ module _ (test : ℕ → Bool) where
   pub first-or-none : FirstOrNone test
   first-or-none = record { given = given-first; first = first-given; none-given = given-nowhere; nowhere = nowhere-given }
 
-pub every-first-or-none : EveryFirstOrNone
-every-first-or-none event date body point = first-or-none (is-at event date body point)
-
 -- tests that agree in the day give the same
 same-minute : (f g : ℕ → Bool) → ((m : ℕ) → m < minutes → f m ≡ g m) → first-minute f ≡ first-minute g
 unfolding first-minute
@@ -112,26 +109,26 @@ module _ (date : Date) (body : Body) (point : Point) where
     pub curve-decides : first-minute (crosses-in event side-before (curve date body point)) ≡ first-minute (is-at event date body point)
     curve-decides = same-minute (crosses-in event side-before (curve date body point)) (is-at event date body point) same-test
 
--- ---- no minute is both
-pub never-together : NeverTogether
-unfolding is-at
-never-together date body point m rise set = go (has-before date m) (up-before date body point m) (up-at date body point m) rise set
-  where
-    go : (has was is : Bool) → has && crosses Rise was is ≡ true → has && crosses Set was is ≡ true → ⊥
-    go true true is rise set = clash rise refl
-    go true false is rise set = clash set refl
-    go false was is rise set = clash rise refl
-
--- ---- without either, every minute is on the side of the first
+-- ---- no minute is both, and without either every minute is on the side of the first
 unchanged : (was is : Bool) → crosses Rise was is ≡ false → crosses Set was is ≡ false → is ≡ was
 unchanged true true rise set = refl
 unchanged true false rise set = absurd (clash refl set)
 unchanged false true rise set = absurd (clash refl rise)
 unchanged false false rise set = refl
 
-pub one-side : OneSide
-unfolding is-at
-one-side date body point no-rise no-set zero h = refl
-one-side date body point no-rise no-set (suc m) h =
-    unchanged (up-at date body point m) (up-at date body point (suc m)) (no-rise (suc m) h) (no-set (suc m) h)
-    ∙ one-side date body point no-rise no-set m (omega arith)
+module _ (date : Date) (body : Body) (point : Point) where
+  pub never-together : NeverTogether date body point
+  unfolding is-at
+  never-together m rise set = go (has-before date m) (up-before date body point m) (up-at date body point m) rise set
+    where
+      go : (has was is : Bool) → has && crosses Rise was is ≡ true → has && crosses Set was is ≡ true → ⊥
+      go true true is rise set = clash rise refl
+      go true false is rise set = clash set refl
+      go false was is rise set = clash rise refl
+
+  pub one-side : OneSide date body point
+  unfolding is-at
+  one-side no-rise no-set zero h = refl
+  one-side no-rise no-set (suc m) h =
+      unchanged (up-at date body point m) (up-at date body point (suc m)) (no-rise (suc m) h) (no-set (suc m) h)
+      ∙ one-side no-rise no-set m (omega arith)

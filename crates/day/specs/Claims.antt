@@ -9,20 +9,19 @@ use Rattle.sky_vectors.specs.declared.station.Point.{Point}
 use Rattle.day.specs.Crossing.{at-minute, at-none, first-minute, is-at, up-at}
 use Rattle.day.specs.Curve.{minute-of, minutes}
 use Rattle.day.specs.Date.{clock, days}
-use Rattle.day.specs.declared.crossing.Event.{Event}
 use Rattle.day.specs.declared.crossing.Event.the-variants.{Rise, Set}
 use Rattle.day.specs.declared.date.Date.{Date}
 
 -- ---- the minutes are 01's instants
 
 -- minute m is hh:mm:00.0 of the date
-abbrev pub MinutesAreClocks : Type 0
-MinutesAreClocks = (date : Date) (m : ℕ) → minute-of date (days date) m ≡ instant (clock date (m / 60) (m % 60))
+abbrev pub MinutesAreClocks : Date → Type 0
+MinutesAreClocks date = (m : ℕ) → minute-of date (days date) m ≡ instant (clock date (m / 60) (m % 60))
 
 -- the minute before 0 is 23:59 of the day before, with the same UT1 difference and delta-T
-abbrev pub MinuteBefore : Type 0
-MinuteBefore =
-    (date before : Date) → days before ≡ days date -ℤ pos 1 → before .ut1 ≡ date .ut1 → before .«delta_t» ≡ date .«delta_t»
+abbrev pub MinuteBefore : Date → Type 0
+MinuteBefore date =
+    (before : Date) → days before ≡ days date -ℤ pos 1 → before .ut1 ≡ date .ut1 → before .«delta_t» ≡ date .«delta_t»
     → minute-of date (days date -ℤ pos 1) 1439 ≡ instant (clock before 23 59)
 
 -- ---- THE TWO CLAIMS on each answer: which minute is given, and when none is
@@ -44,15 +43,25 @@ pub record FirstOrNone (test : ℕ → Bool) : Type 0 where
   pub none-given : first-minute test ≡ at-none → Nowhere test
   pub nowhere : Nowhere test → first-minute test ≡ at-none
 
-abbrev pub EveryFirstOrNone : Type 0
-EveryFirstOrNone = (event : Event) (date : Date) (body : Body) (point : Point) → FirstOrNone (is-at event date body point)
+-- ---- rise and set together
 
--- a rise and a set never fall on one minute
-abbrev pub NeverTogether : Type 0
-NeverTogether = (date : Date) (body : Body) (point : Point) (m : ℕ) → is-at Rise date body point m ≡ true → is-at Set date body point m ≡ true → ⊥
+-- they never fall on one minute
+abbrev pub NeverTogether : Date → Body → Point → Type 0
+NeverTogether date body point = (m : ℕ) → is-at Rise date body point m ≡ true → is-at Set date body point m ≡ true → ⊥
 
 -- where there is neither, the whole curve lies on one side of the threshold, so that its first entry tells a polar day from a polar night
-abbrev pub OneSide : Type 0
-OneSide =
-    (date : Date) (body : Body) (point : Point) → Nowhere (is-at Rise date body point) → Nowhere (is-at Set date body point)
-    → (m : ℕ) → m < minutes → up-at date body point m ≡ up-at date body point 0
+abbrev pub OneSide : Date → Body → Point → Type 0
+OneSide date body point =
+    Nowhere (is-at Rise date body point) → Nowhere (is-at Set date body point) → (m : ℕ) → m < minutes → up-at date body point m ≡ up-at date body point 0
+
+-- all of it, which `rise_and_set` promises beside its equations, of every request
+pub record Told (date : Date) (body : Body) (point : Point) : Type 0 where
+  pub minutes-are-clocks : MinutesAreClocks date
+  pub minute-before : MinuteBefore date
+  pub rise : FirstOrNone (is-at Rise date body point)
+  pub set : FirstOrNone (is-at Set date body point)
+  pub never-together : NeverTogether date body point
+  pub one-side : OneSide date body point
+
+abbrev pub EveryDayTold : Type 0
+EveryDayTold = (date : Date) (body : Body) (point : Point) → Told date body point

@@ -18,14 +18,15 @@ use sky_vectors::station::Point;
 use sky_vectors::station::Runner;
 use sky_vectors::station::runner_at;
 ghost use mathlib.Core.Path.{_≡_};
-ghost use Rattle.number_rules.specs.SineTable.{sines};
 ghost use lib.ListN.{length};
+ghost use Rattle.number_rules.specs.SineTable.{sines};
 ghost use Rattle.calendar.specs.Refusal.{OneAnswer, first};
 ghost use Rattle.sky_vectors.specs.SkyRange.{Standing};
 ghost use Rattle.day.specs.Answer.{crossings, left-in, rise-and-set, rise-set-answer, rise-set-numbers};
+ghost use Rattle.day.specs.Claims.{Told};
 ghost use Rattle.day.specs.Curve.{curve, minutes};
-ghost use Rattle.day.specs.Demand3.{DayNear};
 ghost use Rattle.day.specs.Date.{day-refusals};
+ghost use Rattle.day.specs.Demand3.{DayNear};
 ghost use Rattle.day.specs.Worked.{DayBefore, up-before-day};
 
 pub struct RiseSet {
@@ -87,6 +88,7 @@ pub fn rise_and_set(
     ensures { λ r. ⌜ OneAnswer rise-set-answer (rise-and-set date body point) r ⌝ }
     ensures { λ r. ⌜ now (kept .exit) ≡ left-in (rise-set-answer r) (curve date body point) (now (kept .entry)) ⌝ }
     ensures { λ _. ⌜ DayNear date body point ⌝ }
+    ensures { λ _. ⌜ Told date body point ⌝ }
 {
     match day_verdict(date, point) {
         Verdict::Passed => {

@@ -6,10 +6,20 @@ use Rattle.calendar.proofs.RefusalLaws.{never-none}
 use Rattle.calendar.specs.Refusal.{first, number, verdict-number}
 use Rattle.sky.proofs.AnswerLaws.{judged-value, judged-zeros}
 use Rattle.day.specs.Answer.{crossings, neither, rise-and-set}
+use Rattle.day.specs.Claims.{Told}
 use Rattle.day.specs.Date.{day-refusals}
+use Rattle.day.specs.Demand3.{DayNear}
+use Rattle.day.specs.declared.date.Date.{Date}
+use Rattle.sky_vectors.specs.declared.geocentric.Body.{Body}
+use Rattle.sky_vectors.specs.declared.station.Point.{Point}
 use Rattle.day.proofs.AnswerLaws.{every-day-near, one-rise-set}
+use Rattle.day.proofs.ClaimsHold.{every-day-told}
 use Rattle.day.proofs.answer.rise_and_set.Statement.{statement}
 use Rattle.day.proofs.answer.rise_and_set.Tie as tie
+
+-- what is promised beside the equations, of any request
+beside : (date : Date) (body : Body) (point : Point) → DayNear date body point × Told date body point
+beside date body point = (every-day-near date body point, every-day-told date body point)
 
 day-verdict-requires : tie.Need-day-verdict-requires
 day-verdict-requires c κs = search needs
@@ -42,7 +52,7 @@ returns c =
     let a = s e .args in
     let value = crossings (a .date) (a .body) (a .point) in
     let judged = sym (judged-value (first (day-refusals (a .date) (a .point))) neither value (passes e)) in
-    (one-rise-set ((λ i. record { refusal = 0; value = worked .0 i }) ∙ judged), (worked .1, every-day-near (a .date) (a .body) (a .point)))
+    (one-rise-set ((λ i. record { refusal = 0; value = worked .0 i }) ∙ judged), (worked .1, beside (a .date) (a .body) (a .point)))
 
 returns-2 : tie.Need-returns-2
 unfolding rise-and-set
@@ -54,7 +64,7 @@ returns-2 c =
     let value = crossings (a .date) (a .body) (a .point) in
     let judged = sym (judged-zeros (first (day-refusals (a .date) (a .point))) neither value (λ e. never-none refusal (sym is ∙ e))) in (
       one-rise-set ((λ i. record { refusal = sym is i; value = neither }) ∙ judged),
-      (rw (ne-eqb (number refusal) 0 (never-none refusal)) refl, every-day-near (a .date) (a .body) (a .point)),
+      (rw (ne-eqb (number refusal) 0 (never-none refusal)) refl, beside (a .date) (a .body) (a .point)),
     )
 
 pub rise-and-set-spec : {M : Type 1} → statement M
