@@ -1,6 +1,6 @@
 # make               build the command `raddlehue` over the proved archive, and show today's Sun and Moon
 # make test          the gate: outside checks, every proof from nothing (it removes target/ first), every must-fail edit
-# make differential  a million random requests, the archive against the ordinary Rust version
+# make differential  a million random requests and 5,000 whole days, the archive against the ordinary Rust version
 # make figures       measure, and write docs/FIGURES.md
 # make lib           prove and build the archive for C and Rust, target/lib/libraddlehue.a
 # make install       install it, the command, the header, the documents and a pkg-config file: PREFIX=/usr/local, and DESTDIR before it

@@ -10,8 +10,9 @@
  * horizon upward.
  *
  * What is asked of the caller: a pointer points to as many numbers as its type or its length says, aligned as C aligns them; memories that are written do not overlap
- * others of the same call; about 8 KiB of stack (docs/FIGURES.md has the exact numbers); and, for the doubles of the shown place and of the refraction, the usual
- * state of the floating-point unit: round to nearest, no flush to zero. Lengths have 64 bits on every processor.
+ * others of the same call; about 8 KiB of stack (docs/FIGURES.md has the exact numbers), and for a day 11.5 KB of the caller's own beside it, for the curve; and, for the
+ * doubles of the shown place and of the refraction, the usual state of the floating-point unit: round to nearest, no flush to zero. Lengths have 64 bits on every
+ * processor.
  */
 #ifndef RADDLEHUE_H
 #define RADDLEHUE_H
@@ -31,9 +32,9 @@ extern "C" {
 #endif
 
 /* The version of this header and of the archive beside it. The first number changes when old code must not compile. */
-#define RADDLEHUE_VERSION "2.0.0"
+#define RADDLEHUE_VERSION "2.1.0"
 #define RADDLEHUE_VERSION_MAJOR 2
-#define RADDLEHUE_VERSION_MINOR 0
+#define RADDLEHUE_VERSION_MINOR 1
 #define RADDLEHUE_VERSION_PATCH 0
 
 /* Units of time to a second, and units of angle to a degree. */
@@ -226,6 +227,60 @@ RADDLEHUE_INLINE raddlehue_batch_answer_t raddlehue_batch_of(
         &start, body, &point, offsets_tenths, offsets_length, azimuths_e8, azimuths_length, elevations_e8, elevations_length, &batch);
     answer.index = batch.index;
     answer.count = batch.count;
+    return answer;
+}
+
+/* ---- a day: its curve, and when the body rises and sets */
+
+/* A date of UTC, with UT1 minus UTC and delta-T for all of it. */
+typedef struct {
+    int64_t year;           /* 1900 to 2100 */
+    int64_t month;          /* 1 to 12 */
+    int64_t day;            /* from 1 */
+    int64_t ut1_tenths;     /* UT1 minus UTC, -9 to 9 */
+    int64_t delta_t_tenths; /* delta-T, TT minus UT1: 67.0 s is 670; -80,000 to 80,000 */
+} raddlehue_date_t;
+
+typedef struct {
+    uint32_t has_rise;    /* 1, or 0 where the body does not rise on this date */
+    uint32_t rise_minute; /* from 00:00 UTC, 0 to 1439; 0 where it does not */
+    uint32_t has_set;     /* 1, or 0 where the body does not set on this date */
+    uint32_t set_minute;  /* from 00:00 UTC, 0 to 1439; 0 where it does not */
+} raddlehue_rise_set_t;
+
+/* How many entries a day's curve has. */
+#define RADDLEHUE_DAY_MINUTES 1440
+
+/* Where a body rises and sets, in 1e-8 degree without refraction: -0.8333 degree, the usual centre of the Sun at sunrise. */
+#define RADDLEHUE_RISE_SET_E8 (-83330000)
+
+/* Entry m of the curve, which has RADDLEHUE_DAY_MINUTES, is the elevation without refraction m minutes after 00:00:00.0 UTC. The body rises at the first minute at which
+ * it is at or above RADDLEHUE_RISE_SET_E8 while at the minute before it is below; setting is the reverse. The minute before 0 is 23:59 of the day before, with the same
+ * UT1 minus UTC and delta-T; 1900-01-01 has none, so that the body neither rises nor sets at its minute 0. There is no rise exactly where no minute is such a one, and no
+ * set likewise; where there is neither, the whole curve lies on one side, and its entry 0 tells whether the body stays up or down. Refused: 101, then 1 to 3, then 5
+ * to 9. */
+uint32_t raddlehue_day(
+    const raddlehue_date_t *date, uint32_t body, const raddlehue_point_t *point,
+    int64_t *elevations_e8, raddlehue_rise_set_t *rise_set);
+
+typedef struct {
+    uint32_t refusal;
+    uint32_t has_rise;
+    uint32_t rise_minute;
+    uint32_t has_set;
+    uint32_t set_minute;
+} raddlehue_day_answer_t;
+
+RADDLEHUE_INLINE raddlehue_day_answer_t raddlehue_day_of(
+    raddlehue_date_t date, uint32_t body, raddlehue_point_t point, int64_t *elevations_e8)
+{
+    raddlehue_rise_set_t rise_set = {0, 0, 0, 0};
+    raddlehue_day_answer_t answer;
+    answer.refusal = raddlehue_day(&date, body, &point, elevations_e8, &rise_set);
+    answer.has_rise = rise_set.has_rise;
+    answer.rise_minute = rise_set.rise_minute;
+    answer.has_set = rise_set.has_set;
+    answer.set_minute = rise_set.set_minute;
     return answer;
 }
 

@@ -184,6 +184,35 @@ static void show_batch(const int64_t n[12], uint32_t body, const uint32_t *offse
     numbers(buffer[0], OFFSETS + 2), numbers(buffer[1], OFFSETS + 2), end_line();
 }
 
+enum { MINUTES = 1440 };
+
+static uint64_t curve[SIDE + MINUTES + SIDE];
+
+/* The curve is long: a line has how many of its cells are still poisoned and its digest, as tests/vectors/days.txt says, and what was written beside it. */
+static void show_curve(void) {
+    uint64_t poisoned = 0, digest = 0xcbf29ce484222325u;
+    for (int i = 0; i < SIDE + MINUTES + SIDE; i++) {
+        if (i >= SIDE && i < SIDE + MINUTES) {
+            poisoned += curve[i] == POISON;
+            digest = (digest ^ curve[i]) * 0x100000001b3u;
+        } else if (curve[i] != POISON) {
+            name("BESIDE"), word((uint64_t)i), word(curve[i]);
+        }
+    }
+    word(poisoned), word(digest);
+}
+
+/* A day's eight numbers: a date of five and a point of three, as the header's structs lie. */
+static void show_day(const int64_t n[8], uint32_t body) {
+    const raddlehue_date_t *date = (const raddlehue_date_t *)(const void *)n;
+    const raddlehue_point_t *point = (const raddlehue_point_t *)(const void *)(n + 5);
+    for (int i = 0; i < SIDE + MINUTES + SIDE; i++) {
+        curve[i] = POISON;
+    }
+    name("day"), numbers(n, 5), word(body), numbers(n + 5, 3);
+    show_lent(raddlehue_day(date, body, point, (int64_t *)&curve[SIDE], lend()), 2), show_curve(), end_line();
+}
+
 static void show_middle(int64_t a, int64_t b) {
     name("middle"), word((uint64_t)a), word((uint64_t)b);
     show_lent(raddlehue_middle(a, b, lend()), 1), end_line();
@@ -243,6 +272,22 @@ static void random_batch(const int64_t n[12], uint32_t body) {
     show_batch(n, body, offsets, count, azimuths, elevations);
 }
 
+/* A day's numbers are a request's without its clock. A whole day is 1,440 places, and dear under emulation: most get a number outside its range, and are refused. It
+ * is any but the day's, since 29 may be one. */
+static void random_day(const int64_t n[12], uint32_t body, int whole) {
+    static const int AT[8] = {0, 1, 2, 7, 8, 9, 10, 11};
+    int64_t day[8];
+    for (int i = 0; i < 8; i++) {
+        day[i] = n[AT[i]];
+    }
+    if (!whole) {
+        int i = (int)below(7);
+        i += i >= 2;
+        day[i] = outside(FIELDS[AT[i]].lo, FIELDS[AT[i]].hi);
+    }
+    show_day(day, body);
+}
+
 void run_random(uint32_t count, uint64_t s) {
     seed(s);
     for (uint32_t i = 0; i < count; i++) {
@@ -257,6 +302,7 @@ void run_random(uint32_t count, uint64_t s) {
         show_place(n, code(2), air);
         show_instant(n);
         random_batch(n, code(2));
+        random_day(n, code(2), i % 50 == 0);
         x = field(-1, 36000000000), y = below(4) ? field(-1, 36000000000) : x + 18000000000;
         show_middle(x, y);
         show_refraction(below(2) ? mostly(-9000000000, 9000000000) : field(-100, 200000000), air);
@@ -358,6 +404,13 @@ static void run_vector(const char *text) {
             offsets[count++] = (uint32_t)decimal();
         }
         show_batch(n, body, offsets, count, azimuths, elevations);
+    } else if (is_kind(text, "day")) {
+        uint32_t body = *rest == 'm';
+        is_kind(rest, body ? "moon" : "sun");
+        for (int i = 0; i < 8; i++) {
+            n[i] = decimal();
+        }
+        show_day(n, body);
     } else {
         uint32_t body = *text == 'm';
         if (!is_kind(text, body ? "moon" : "sun")) {

@@ -37,6 +37,7 @@ extern "C" {
         elevations_length: u64,
         batch: *mut [u64; 2],
     ) -> u32;
+    pub fn raddlehue_day(date: &[i64; 5], body: u32, point: &[i64; 3], elevations: *mut [i64; MINUTES], rise_set: *mut [u32; 4]) -> u32;
     pub fn raddlehue_middle(a: i64, b: i64, azimuth: *mut i64) -> u32;
     pub fn raddlehue_refraction(elevation: i64, air: u32, pressure: f64, temperature: f64, degrees: *mut f64) -> u32;
     pub fn raddlehue_day_count(year: i64, month: i64, day: i64, days: *mut i64) -> u32;
@@ -60,6 +61,10 @@ pub struct Air {
     pub pressure: f64,
     pub temperature: f64,
 }
+
+// The minutes of a day, and the elevation at and above which a body is up.
+pub const MINUTES: usize = 1440;
+pub const THRESHOLD: i64 = -83_330_000;
 
 pub const NO_AIR: Air = Air { kind: 0, pressure: 0.0, temperature: 0.0 };
 
@@ -134,6 +139,27 @@ pub fn batch(numbers: &[i64; 12], body: u32, offsets: &[u32], azimuths: &mut [i6
             at.cast(),
         )
     })
+}
+
+// What a day's memory holds: the elevations, and whether there is a rise, its minute, whether there is a set, its minute.
+#[derive(Clone, Copy, Debug, PartialEq)]
+pub struct Day {
+    pub elevations: [i64; MINUTES],
+    pub rise_set: [u32; 4],
+}
+
+pub const UNWRITTEN_DAY: Day = Day { elevations: [POISON; MINUTES], rise_set: [POISON as u32; 4] };
+
+// Of eight numbers: a date's three with its UT1 minus UTC and delta-T, and a point's three.
+pub fn day(numbers: &[i64; 8], body: u32) -> Answer<Day> {
+    let (date, point) = (numbers.first_chunk().unwrap(), numbers.last_chunk().unwrap());
+    let mut rise_set = UNWRITTEN_DAY.rise_set;
+    let (refusal, elevations) = poisoned(|elevations| {
+        let (refusal, told) = lent(rise_set, |at| unsafe { raddlehue_day(date, body, point, elevations, at) });
+        rise_set = told;
+        refusal
+    });
+    (refusal, Day { elevations, rise_set })
 }
 
 pub fn middle(a: i64, b: i64) -> Answer<i64> {

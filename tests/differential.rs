@@ -2,7 +2,8 @@
 //
 //     differential COUNT [SEED]
 //
-// COUNT requests for a place, each asked for plainly and as shown, and with them instants, batches, middles, refractions, the leaves and the sums at an instant.
+// COUNT requests for a place, each asked for plainly and as shown, and with them instants, batches, middles, refractions, the leaves and the sums at an instant; of
+// whole days, which are 1,440 places each, one for every 200 requests, and damaged ones, which cost nothing, for every eighth.
 // A refused call writes nothing: its memory stays poisoned. The first mismatch ends the run with the request that gave it, and so does a refusal that no request
 // of the run was given (in a run of some thousands all are).
 use std::env;
@@ -12,6 +13,7 @@ use std::process::exit;
 use raddlehue_reference as reference;
 
 mod archive;
+mod random_days;
 use archive::*;
 
 const FULL_TURN: i64 = 36_000_000_000;
@@ -152,11 +154,7 @@ impl Request {
     }
 
     fn reference_body(&self) -> reference::Body {
-        if self.body == 0 {
-            reference::Body::Sun
-        } else {
-            reference::Body::Moon
-        }
+        random_days::body_of(self.body)
     }
 }
 
@@ -200,6 +198,9 @@ struct Seen {
     middles: [u64; 256],
     refractions: [u64; 256],
     sums: [u64; 256],
+    days: [u64; 256],
+    // of the accepted days, those without a rise, without a set, and with one of them at minute 0
+    crossings: [u64; 3],
 }
 
 fn same<T: PartialEq + Debug>(what: &str, input: impl Debug, ours: Answer<T>, expected: Answer<T>, seen: &mut [u64; 256]) {
@@ -260,6 +261,32 @@ fn batch_of(random: &mut Random, asked: &mut Request, seen: &mut Seen) {
     same("batch", &input, found, expected, &mut seen.batches);
     // the buffers, each as it is left
     same("buffers of a batch", &input, (found.0, ours), (found.0, theirs), &mut [0; 256]);
+}
+
+fn reference_day(numbers: &[i64; 8], body: u32) -> Result<Day, u32> {
+    let mut elevations = UNWRITTEN_DAY.elevations;
+    let (date, point) = (random_days::date_of(numbers), random_days::point_of(numbers));
+    let found = reference::day(date, random_days::body_of(body), point, &mut elevations).map_err(u32::from)?;
+    let [rise, set] = [found.rise, found.set].map(|minute| minute.map_or([0, 0], |minute| [1, minute as u32]));
+    Ok(Day { elevations, rise_set: [rise[0], rise[1], set[0], set[1]] })
+}
+
+// Of two curves that differ, the first minute that does says more than both of them.
+fn day_of((numbers, body): ([i64; 8], u32), seen: &mut Seen) {
+    let (refusal, ours) = day(&numbers, body);
+    let found = body_refusal(body).and_then(|()| reference_day(&numbers, body));
+    let expected_refusal = found.err().unwrap_or(0);
+    let expected = found.unwrap_or(UNWRITTEN_DAY);
+    let differs = (0..MINUTES).find(|&minute| ours.elevations[minute] != expected.elevations[minute]);
+    let of = |day: &Day| (day.rise_set, differs.map(|minute| (minute, day.elevations[minute])));
+    same("day", (numbers, body), (refusal, of(&ours)), (expected_refusal, of(&expected)), &mut seen.days);
+    if refusal == 0 {
+        let [rises, rise, sets, set] = ours.rise_set;
+        let at_0 = (rises == 1 && rise == 0) || (sets == 1 && set == 0);
+        for (count, is_so) in seen.crossings.iter_mut().zip([rises == 0, sets == 0, at_0]) {
+            *count += u64::from(is_so);
+        }
+    }
 }
 
 fn azimuth(random: &mut Random) -> i64 {
@@ -348,7 +375,8 @@ fn main() {
     let count = numbers.first().copied().unwrap_or(1_000_000);
     let mut random = Random(numbers.get(1).copied().unwrap_or(1));
     let none = [0; 256];
-    let mut seen = Seen { places: none, instants: none, batches: none, middles: none, refractions: none, sums: none };
+    let mut seen =
+        Seen { places: none, instants: none, batches: none, middles: none, refractions: none, sums: none, days: none, crossings: [0; 3] };
     for turn in 0..count {
         let mut asked = request(&mut random);
         place_of(&asked, &mut seen);
@@ -361,6 +389,12 @@ fn main() {
             batch_of(&mut random, &mut asked, &mut seen);
             sums_at(&mut random, &mut seen);
         }
+        if turn % 8 == 0 {
+            day_of(random_days::damaged(&mut random), &mut seen);
+        }
+        if turn % 200 == 0 {
+            day_of(random_days::accepted(&mut random), &mut seen);
+        }
     }
     let drawn = [
         complete("places", &seen.places, (1..=11).chain([101, 102])),
@@ -369,6 +403,8 @@ fn main() {
         complete("middles", &seen.middles, [14, 15]),
         complete("refractions", &seen.refractions, [10, 11, 102, 103]),
         complete("sums", &seen.sums, [104]),
+        complete("days", &seen.days, [1, 2, 3, 5, 6, 7, 8, 9, 101]),
+        format!("    days without a rise {}, without a set {}, with one at minute 0 {}", seen.crossings[0], seen.crossings[1], seen.crossings[2]),
     ];
     println!("differential: {count} requests, 0 mismatches; answered (0) and refused\n{}", drawn.join("\n"));
 }

@@ -63,13 +63,11 @@ fn reference_shown(body: u32, call: u64) -> i64 {
     shown.map_or(0, |shown| (shown.azimuth.to_bits() ^ shown.elevation.to_bits()) as i64)
 }
 
-const MINUTES: usize = 1440;
-
 fn offsets() -> Vec<u32> {
     (0..MINUTES as u32).map(|minute| minute * 600).collect()
 }
 
-fn day(body: u32, call: u64) -> i64 {
+fn batch_of_a_day(body: u32, call: u64) -> i64 {
     let offsets = offsets();
     let (mut azimuths, mut elevations) = (vec![0; MINUTES], vec![0; MINUTES]);
     let mut at = numbers(call);
@@ -92,11 +90,29 @@ fn day(body: u32, call: u64) -> i64 {
     azimuths.iter().chain(&elevations).fold(0, |sum, entry| sum ^ entry)
 }
 
-fn reference_day(body: u32, call: u64) -> i64 {
+fn reference_batch_of_a_day(body: u32, call: u64) -> i64 {
     let (mut azimuths, mut elevations) = (vec![0; MINUTES], vec![0; MINUTES]);
     let at = reference::Start { hour: 0, minute: 0, second: 0, ..reference_start(call) };
     let _ = reference::batch(at, reference_body(body), reference_point(), &offsets(), &mut azimuths, &mut elevations);
     azimuths.iter().chain(&elevations).fold(0, |sum, entry| sum ^ entry)
+}
+
+fn day_of(body: u32, call: u64) -> i64 {
+    let [year, month, day, .., ut1, delta_t] = numbers(call);
+    let (mut elevations, mut rise_set) = ([0; MINUTES], [0; 4]);
+    unsafe { raddlehue_day(&[year, month, day, ut1, delta_t], body, &POINT, &mut elevations, &mut rise_set) };
+    let [has_rise, rise, has_set, set] = rise_set.map(i64::from);
+    elevations.iter().fold(has_rise + 2 * has_set + 4 * rise + 8192 * set, |sum, entry| sum ^ entry)
+}
+
+fn reference_day(body: u32, call: u64) -> i64 {
+    let [year, month, day, .., ut1, delta_t] = numbers(call);
+    let date = reference::Date { year, month, day, ut1, delta_t };
+    let mut elevations = [0; MINUTES];
+    let found = reference::day(date, reference_body(body), reference_point(), &mut elevations);
+    let [rise, set] = found.map_or([None; 2], |found| [found.rise, found.set]);
+    let told = [(rise, 1, 4), (set, 2, 8192)].map(|(minute, flag, scale)| minute.map_or(0, |minute| flag + scale * minute as i64));
+    elevations.iter().fold(told[0] + told[1], |sum, entry| sum ^ entry)
 }
 
 // A sum's answer, one of its numbers.
@@ -127,13 +143,25 @@ struct Call {
     reference: fn(u64) -> i64,
 }
 
-const CALLS: [Call; 13] = [
+const CALLS: [Call; 15] = [
     Call { name: "place of the Sun", places: 1, ours: |call| place_of(0, call), reference: |call| reference_place(0, call) },
     Call { name: "place of the Moon", places: 1, ours: |call| place_of(1, call), reference: |call| reference_place(1, call) },
     Call { name: "shown place of the Sun", places: 1, ours: |call| shown_of(0, call), reference: |call| reference_shown(0, call) },
     Call { name: "shown place of the Moon", places: 1, ours: |call| shown_of(1, call), reference: |call| reference_shown(1, call) },
-    Call { name: "a day's minutes of the Sun, each", places: 1440, ours: |call| day(0, call), reference: |call| reference_day(0, call) },
-    Call { name: "a day's minutes of the Moon, each", places: 1440, ours: |call| day(1, call), reference: |call| reference_day(1, call) },
+    Call {
+        name: "a batch of a day's minutes, Sun, each",
+        places: 1440,
+        ours: |call| batch_of_a_day(0, call),
+        reference: |call| reference_batch_of_a_day(0, call),
+    },
+    Call {
+        name: "a batch of a day's minutes, Moon, each",
+        places: 1440,
+        ours: |call| batch_of_a_day(1, call),
+        reference: |call| reference_batch_of_a_day(1, call),
+    },
+    Call { name: "a day with rise and set, Sun, each minute", places: 1440, ours: |call| day_of(0, call), reference: |call| reference_day(0, call) },
+    Call { name: "a day with rise and set, Moon, each minute", places: 1440, ours: |call| day_of(1, call), reference: |call| reference_day(1, call) },
     Call {
         name: "sums of the Sun",
         places: 1,
@@ -192,6 +220,19 @@ fn nanoseconds(call: fn(u64) -> i64, places: u64) -> f64 {
     best
 }
 
+// The time of one call in that of another, run by turns, so that what else the machine does falls on both.
+fn ratio(call: fn(u64) -> i64, other: fn(u64) -> i64) -> f64 {
+    let mut best = [f64::INFINITY; 2];
+    for run in 0..60 {
+        for (best, side) in best.iter_mut().zip([call, other]) {
+            let begun = Instant::now();
+            black_box(side(black_box(run)));
+            *best = best.min(begun.elapsed().as_nanos() as f64);
+        }
+    }
+    best[0] / best[1]
+}
+
 fn table() {
     println!("| Call | archive, ns | ordinary Rust, ns | ratio |");
     println!("|---|---:|---:|---:|");
@@ -203,6 +244,8 @@ fn table() {
         let reference = nanoseconds(call.reference, call.places);
         println!("| {} | {ours:.0} | {reference:.0} | {:.2} |", call.name, ours / reference);
     }
+    let (sun, moon) = (ratio(|call| day_of(0, call), |call| batch_of_a_day(0, call)), ratio(|call| day_of(1, call), |call| batch_of_a_day(1, call)));
+    println!("\nA day with rise and set takes {sun:.3} (Sun) and {moon:.3} (Moon) of the time of 1,440 samples of the batch.");
 }
 
 fn main() {

@@ -1,4 +1,4 @@
-/* Every export, and every function beside one, called from C or C++ with answers of tests/vectors; a refused call leaves what it was lent as it was.
+/* Every export, and every function beside one, called from C or C++ with answers of tests/vectors and, for days, of DE431; a refused call leaves what it was lent as it was.
  * Silent where all of that holds. It is C89 and C++98 as well as all that came after them. */
 #include "raddlehue.h"
 #include "raddlehue.h"
@@ -32,6 +32,10 @@ static const raddlehue_point_t batch_point = {-202447758, -340487719, 5521};
 static const raddlehue_start_t late_start = {2100, 12, 31, 23, 51, 23, 5, -1, 33931};
 static const raddlehue_point_t late_point = {-243466823, -65708847, 6033};
 
+/* The longest day at Greenwich, whose rise and set DE431 has at the same minutes. */
+static const raddlehue_date_t longest_day = {2009, 6, 21, 0, 659};
+static const raddlehue_point_t greenwich = {0, 514769000, 46};
+
 static const int64_t reach = 31904733600;
 
 /* The doubles of the vectors are written as their bits. */
@@ -48,6 +52,7 @@ static int constants(void)
     sprintf(version, "%d.%d.%d", RADDLEHUE_VERSION_MAJOR, RADDLEHUE_VERSION_MINOR, RADDLEHUE_VERSION_PATCH);
     CHECK(strcmp(version, RADDLEHUE_VERSION) == 0);
     CHECK(RADDLEHUE_SECOND == 10 && RADDLEHUE_DEGREE_E7 == 10000000 && RADDLEHUE_DEGREE_E8 == 100000000);
+    CHECK(RADDLEHUE_DAY_MINUTES == 1440 && RADDLEHUE_RISE_SET_E8 == -83330000);
     CHECK(RADDLEHUE_SUN == 0 && RADDLEHUE_MOON == 1);
     CHECK(RADDLEHUE_AIR_NONE == 0 && RADDLEHUE_AIR_STANDARD == 1 && RADDLEHUE_AIR_MEASURED == 2);
     return 0;
@@ -61,11 +66,13 @@ static int sizes(void)
     CHECK(sizeof(raddlehue_place_t) == 2 * sizeof(int64_t));
     CHECK(sizeof(raddlehue_shown_place_t) == 3 * sizeof(double));
     CHECK(sizeof(raddlehue_batch_t) == 2 * sizeof(uint64_t));
+    CHECK(sizeof(raddlehue_date_t) == 5 * sizeof(int64_t));
+    CHECK(sizeof(raddlehue_rise_set_t) == 4 * sizeof(uint32_t));
     CHECK(sizeof(raddlehue_instant_t) == 2 * sizeof(int64_t));
     CHECK(sizeof(raddlehue_moon_sums_t) == 3 * sizeof(int64_t));
     CHECK(sizeof(raddlehue_sun_sums_t) == 3 * sizeof(int64_t));
     CHECK(sizeof(raddlehue_nutation_t) == 3 * sizeof(int64_t));
-    CHECK(sizeof(int64_t) == 8 && sizeof(double) == 8);
+    CHECK(sizeof(int64_t) == 8 && sizeof(double) == 8 && sizeof(uint32_t) == 4);
     return 0;
 }
 
@@ -212,6 +219,102 @@ static int empty_batch(void)
     return 0;
 }
 
+/* A minute of the day as a moment of its own. */
+static int64_t elevation_at(raddlehue_date_t date, int64_t minute, uint32_t body, raddlehue_point_t point)
+{
+    raddlehue_start_t start = {0, 0, 0, 0, 0, 0, 0, 0, 0};
+    start.year = date.year;
+    start.month = date.month;
+    start.day = date.day;
+    start.hour = minute / 60;
+    start.minute = minute % 60;
+    start.ut1_tenths = date.ut1_tenths;
+    start.delta_t_tenths = date.delta_t_tenths;
+    return raddlehue_place_of(start, body, point, standard).elevation_e8;
+}
+
+static int rises_and_sets(raddlehue_day_answer_t answer, uint32_t has_rise, uint32_t rise_minute, uint32_t has_set, uint32_t set_minute)
+{
+    return answer.refusal == RADDLEHUE_ACCEPTED && answer.has_rise == has_rise && answer.rise_minute == rise_minute &&
+           answer.has_set == has_set && answer.set_minute == set_minute;
+}
+
+/* Every minute of the curve is the place's elevation, and what follows the curve is left alone. */
+static int day(void)
+{
+    int64_t elevations[RADDLEHUE_DAY_MINUTES + 1], minute;
+    raddlehue_rise_set_t rise_set = {7, 8, 9, 10};
+    elevations[RADDLEHUE_DAY_MINUTES] = -7;
+    CHECK(raddlehue_day(&longest_day, RADDLEHUE_SUN, &greenwich, elevations, &rise_set) == RADDLEHUE_ACCEPTED);
+    CHECK(rise_set.has_rise == 1 && rise_set.rise_minute == 223 && rise_set.has_set == 1 && rise_set.set_minute == 1221);
+    for (minute = 0; minute < RADDLEHUE_DAY_MINUTES; minute++)
+        CHECK(elevations[minute] == elevation_at(longest_day, minute, RADDLEHUE_SUN, greenwich));
+    CHECK(elevations[222] < RADDLEHUE_RISE_SET_E8 && RADDLEHUE_RISE_SET_E8 <= elevations[223]);
+    CHECK(elevations[1220] >= RADDLEHUE_RISE_SET_E8 && RADDLEHUE_RISE_SET_E8 > elevations[1221]);
+    CHECK(rises_and_sets(raddlehue_day_of(longest_day, RADDLEHUE_MOON, greenwich, elevations), 1, 108, 1, 1172));
+    CHECK(elevations[719] == elevation_at(longest_day, 719, RADDLEHUE_MOON, greenwich));
+    CHECK(elevations[RADDLEHUE_DAY_MINUTES] == -7);
+    return 0;
+}
+
+/* A polar day and a polar night, a rise and a set that stand alone, a rise at minute 0, and the one that 1900-01-01 cannot have. */
+static int days_without(void)
+{
+    const raddlehue_point_t tromso = {189553000, 696492000, 10}, equator = {902000000, 0, 0};
+    raddlehue_date_t date = {2026, 6, 21, 0, 691};
+    int64_t elevations[RADDLEHUE_DAY_MINUTES];
+    CHECK(rises_and_sets(raddlehue_day_of(date, RADDLEHUE_SUN, tromso, elevations), 0, 0, 0, 0) && elevations[0] >= RADDLEHUE_RISE_SET_E8);
+    date.month = 12;
+    CHECK(rises_and_sets(raddlehue_day_of(date, RADDLEHUE_SUN, tromso, elevations), 0, 0, 0, 0) && elevations[0] < RADDLEHUE_RISE_SET_E8);
+    date.month = 11;
+    date.day = 3;
+    CHECK(rises_and_sets(raddlehue_day_of(date, RADDLEHUE_MOON, greenwich, elevations), 0, 0, 1, 858));
+    date.day = 18;
+    CHECK(rises_and_sets(raddlehue_day_of(date, RADDLEHUE_MOON, greenwich, elevations), 1, 806, 0, 0));
+    date.year = 1900;
+    date.month = 1;
+    date.day = 2;
+    date.delta_t_tenths = -20;
+    CHECK(rises_and_sets(raddlehue_day_of(date, RADDLEHUE_SUN, equator, elevations), 1, 0, 1, 727));
+    date.day = 1;
+    CHECK(rises_and_sets(raddlehue_day_of(date, RADDLEHUE_SUN, equator, elevations), 0, 0, 1, 727));
+    return 0;
+}
+
+static int refused_day(void)
+{
+    raddlehue_date_t date = longest_day;
+    raddlehue_point_t point = greenwich;
+    raddlehue_rise_set_t rise_set = {7, 8, 9, 10};
+    raddlehue_day_answer_t answer;
+    int64_t elevations[RADDLEHUE_DAY_MINUTES], minute;
+    for (minute = 0; minute < RADDLEHUE_DAY_MINUTES; minute++)
+        elevations[minute] = -7;
+    point.height_metres = 9001;
+    CHECK(raddlehue_day(&date, RADDLEHUE_SUN, &point, elevations, &rise_set) == RADDLEHUE_HEIGHT);
+    point.latitude_e7 = 900000001;
+    CHECK(raddlehue_day(&date, RADDLEHUE_SUN, &point, elevations, &rise_set) == RADDLEHUE_LATITUDE);
+    point.longitude_e7 = -1800000001;
+    CHECK(raddlehue_day(&date, RADDLEHUE_SUN, &point, elevations, &rise_set) == RADDLEHUE_LONGITUDE);
+    date.delta_t_tenths = 80001;
+    CHECK(raddlehue_day(&date, RADDLEHUE_SUN, &point, elevations, &rise_set) == RADDLEHUE_DELTA_T);
+    date.ut1_tenths = 10;
+    CHECK(raddlehue_day(&date, RADDLEHUE_SUN, &point, elevations, &rise_set) == RADDLEHUE_UT1);
+    date.day = 31;
+    CHECK(raddlehue_day(&date, RADDLEHUE_SUN, &point, elevations, &rise_set) == RADDLEHUE_DAY);
+    date.month = 13;
+    CHECK(raddlehue_day(&date, RADDLEHUE_SUN, &point, elevations, &rise_set) == RADDLEHUE_MONTH);
+    date.year = 2101;
+    CHECK(raddlehue_day(&date, RADDLEHUE_SUN, &point, elevations, &rise_set) == RADDLEHUE_YEAR);
+    CHECK(raddlehue_day(&date, 2, &point, elevations, &rise_set) == RADDLEHUE_UNKNOWN_BODY);
+    CHECK(rise_set.has_rise == 7 && rise_set.rise_minute == 8 && rise_set.has_set == 9 && rise_set.set_minute == 10);
+    answer = raddlehue_day_of(date, RADDLEHUE_MOON, greenwich, elevations);
+    CHECK(answer.refusal == RADDLEHUE_YEAR && answer.has_rise == 0 && answer.rise_minute == 0 && answer.has_set == 0 && answer.set_minute == 0);
+    for (minute = 0; minute < RADDLEHUE_DAY_MINUTES; minute++)
+        CHECK(elevations[minute] == -7);
+    return 0;
+}
+
 static int middle(void)
 {
     int64_t azimuth = -7;
@@ -328,5 +431,5 @@ static int numbers(void)
 int main(void)
 {
     return constants() || sizes() || texts() || place() || refusals() || shown_place() || batch() || refused_batch() || empty_batch() ||
-           middle() || refraction() || days_and_instants() || moon_and_sun() || earth() || numbers();
+           day() || days_without() || refused_day() || middle() || refraction() || days_and_instants() || moon_and_sun() || earth() || numbers();
 }

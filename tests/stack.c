@@ -6,21 +6,23 @@
 
 #include "raddlehue.h"
 
-enum { STACK = 1 << 18, PAINT = 0xA5, COUNT = 64 };
+enum { STACK = 1 << 18, PAINT = 0xA5, COUNT = 64, MINUTES = 1440 };
 
 static unsigned char stack[STACK];
 static ucontext_t back, there;
 static void (*entry)(void);
 
 static raddlehue_start_t start = {2003, 10, 17, 19, 30, 30, 0, 0, 670};
+static raddlehue_date_t date = {2003, 10, 17, 0, 670};
 static raddlehue_point_t point = {-1051786000, 397424760, 1830};
 static const double pressure = 820.0, temperature = 11.0;
 static uint32_t body;
 static uint32_t offsets[COUNT];
-static int64_t azimuths[COUNT], elevations[COUNT];
+static int64_t azimuths[COUNT], elevations[COUNT], curve[MINUTES];
 static raddlehue_place_t place;
 static raddlehue_shown_place_t shown;
 static raddlehue_batch_t told;
+static raddlehue_rise_set_t rise_set;
 static raddlehue_instant_t moment;
 static raddlehue_moon_sums_t moon;
 static raddlehue_sun_sums_t sun;
@@ -33,6 +35,7 @@ static void nothing(void) {}
 static void plain_place(void) { kept = raddlehue_place(&start, body, &point, RADDLEHUE_AIR_MEASURED, pressure, temperature, &place); }
 static void shown_place(void) { kept = raddlehue_shown_place(&start, body, &point, RADDLEHUE_AIR_MEASURED, pressure, temperature, &shown); }
 static void batch(void) { kept = raddlehue_batch(&start, body, &point, offsets, COUNT, azimuths, COUNT, elevations, COUNT, &told); }
+static void day(void) { kept = raddlehue_day(&date, body, &point, curve, &rise_set); }
 static void middle(void) { kept = raddlehue_middle(35990000000, 10000000, &number); }
 static void refraction(void) { kept = raddlehue_refraction(0, RADDLEHUE_AIR_MEASURED, pressure, temperature, &degrees); }
 static void day_count(void) { kept = raddlehue_day_count(2100, 12, 31, &number); }
@@ -63,14 +66,17 @@ static size_t used_by(void (*call)(void)) {
     return STACK - left;
 }
 
-static void row(const char *name, void (*call)(void)) {
+/* What is lent is the caller's, and comes on top. */
+static void row_with(const char *name, void (*call)(void), size_t lent) {
     size_t most = 0;
     for (body = RADDLEHUE_SUN; body <= RADDLEHUE_MOON; body++) {
         size_t used = used_by(call) - used_by(nothing);
         most = used > most ? used : most;
     }
-    printf("| %s | %zu |\n", name, most);
+    printf("| %s | %zu |\n", name, most + lent);
 }
+
+static void row(const char *name, void (*call)(void)) { row_with(name, call, 0); }
 
 int main(void) {
     for (uint32_t i = 0; i < COUNT; i++) {
@@ -80,6 +86,8 @@ int main(void) {
     row("raddlehue_place", plain_place);
     row("raddlehue_shown_place", shown_place);
     row("raddlehue_batch", batch);
+    row("raddlehue_day", day);
+    row_with("raddlehue_day and the curve that it is lent", day, sizeof curve);
     row("raddlehue_middle", middle);
     row("raddlehue_refraction", refraction);
     row("raddlehue_day_count", day_count);

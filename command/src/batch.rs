@@ -163,11 +163,9 @@ fn heading_scales(track: &Track) -> String {
     if let Some(start) = track.start {
         return scales_words(track.observer.scales(start));
     }
-    let all = || track.rows.iter().map(|row| row.scales);
-    let by_delta_t = |scales: &Scales| scales.offsets.delta_t_tenths;
-    match (all().min_by_key(by_delta_t), all().max_by_key(by_delta_t)) {
-        (Some(least), Some(greatest)) => range_words(least, greatest),
-        _ => "no line, so that neither UT1 minus UTC nor delta-T is used\n".to_string(),
+    match Scales::range(track.rows.iter().map(|row| row.scales)) {
+        Some((least, greatest)) => range_words(least, greatest),
+        None => "no line, so that neither UT1 minus UTC nor delta-T is used\n".to_string(),
     }
 }
 

@@ -4,28 +4,30 @@ use crate::decimal;
 use crate::delta_t::Scales;
 use crate::failure::{quoted, Failure};
 use crate::format::{self, format_help, Format};
-use crate::observer::{self, observer_help, scales_words, Observer};
+use crate::observer::{self, observer_help, scales_words, zone_help, Observer};
+use crate::rise_set::{passed_degrees, Day, Days};
 use crate::sky::{self, Body, Place, ANGLE_DECIMALS};
-use crate::time::{Moment, Zone, UTC};
+use crate::time::Moment;
 use crate::words::{Command, Words};
 
 pub const COMMAND: Command = Command {
     name: "day",
-    summary: "a table of the Sun and the Moon through a day",
+    summary: "a table of the Sun and the Moon through a day, rise and set",
     positional: &["DATE"],
-    flags: &[observer::FLAGS, format::FLAGS, &[("--zone", Some("a zone")), ("--every", Some("whole minutes"))]],
+    flags: &[observer::FLAGS, observer::ZONE, format::FLAGS, &[("--every", Some("whole minutes"))]],
     help: concat!(
         "raddlehue day DATE --lat DEG --lon DEG [flags]
 
 A table of azimuth and elevation of the Sun and the Moon through a day, each
-hour unless --every says otherwise. The elevation is without refraction. DATE
-is like 2026-11-15, a day of the zone. Delta-T is that of the day's beginning.
+hour unless --every says otherwise, and above it when each first rises and sets
+on that day, or that it does not: the centre passes -0.8333 degrees, as it does
+at the usual sunrise. Elevations are without refraction. DATE is like
+2026-11-15, a day of the zone. Delta-T is that of the day's beginning.
 
 ",
         observer_help!(),
-        "  --zone ZONE       Z or like +13:00, the zone of the date and of the times; UTC
-                    unless given
-  --every MIN       whole minutes from line to line, 1 to 1440; 60 unless given
+        zone_help!(),
+        "  --every MIN       whole minutes from line to line, 1 to 1440; 60 unless given
 ",
         format_help!(),
         "
@@ -48,18 +50,30 @@ struct Row {
     moon: Place,
 }
 
+/// All that is told of a day.
+struct Table {
+    observer: Observer,
+    midnight: Moment,
+    scales: Scales,
+    /// The Sun's and the Moon's.
+    days: [Day; 2],
+    rows: Vec<Row>,
+}
+
 fn run(words: &Words) -> Result<String, Failure> {
     let format = Format::read(words)?;
     let observer = Observer::read(words)?;
-    let zone = words.value("--zone").map_or(Ok(UTC), Zone::read)?;
+    let zone = observer::zone(words)?;
     let every = words.value("--every").map_or(Ok(60), minutes)?;
     let midnight = Moment::midnight(words.positional(0), zone)?;
     let rows = rows(observer, midnight, every)?;
-    let scales = observer.scales(midnight);
+    let day = |body| Days::of(observer, body).day(midnight);
+    let days = [day(Body::Sun)?, day(Body::Moon)?];
+    let table = Table { observer, midnight, scales: observer.scales(midnight), days, rows };
     Ok(match format {
-        Format::Text => text(observer, midnight, scales, &rows),
-        Format::Json => json(observer, midnight, scales, &rows),
-        Format::Csv => csv(scales, &rows),
+        Format::Text => text(&table),
+        Format::Json => json(&table),
+        Format::Csv => csv(&table),
     })
 }
 
@@ -82,17 +96,21 @@ fn rows(observer: Observer, midnight: Moment, every: u32) -> Result<Vec<Row>, Fa
 
 // ---- the three forms
 
-fn text(observer: Observer, midnight: Moment, scales: Scales, rows: &[Row]) -> String {
+fn text(table: &Table) -> String {
     let mut text = format!(
-        "Sun and Moon on {}, times in {}\n{}\n{}\
+        "Sun and Moon on {}, times in {}\n{}\n{}{}\n{}\n\
+         rise and set when the centre passes {} degrees, without refraction, to the minute\n\
          azimuth in degrees from north over east\nelevation in degrees above the horizon, without refraction\n\n\
          time   Sun azimuth  Sun elevation  Moon azimuth  Moon elevation\n",
-        midnight.clock().date.written(),
-        midnight.zone().words(),
-        observer.words(),
-        scales_words(scales)
+        table.midnight.clock().date.written(),
+        table.midnight.zone().words(),
+        table.observer.words(),
+        scales_words(table.scales),
+        table.days[0].sentence(),
+        table.days[1].sentence(),
+        passed_degrees()
     );
-    for Row { moment, sun, moon } in rows {
+    for Row { moment, sun, moon } in &table.rows {
         let (sun, moon) = (shown(*sun), shown(*moon));
         text += &format!("{}  {:>11}  {:>13}  {:>12}  {:>14}\n", moment.hour_and_minute(), sun.0, sun.1, moon.0, moon.1);
     }
@@ -106,29 +124,37 @@ fn shown(place: Place) -> (String, String) {
     (decimal::written(azimuth, SHOWN_DECIMALS), decimal::written(rounded(place.elevation_e8), SHOWN_DECIMALS))
 }
 
-fn json(observer: Observer, midnight: Moment, scales: Scales, rows: &[Row]) -> String {
+fn json(table: &Table) -> String {
     let row = |row: &Row| {
         let (sun, moon) = (format::json_place(row.sun), format::json_place(row.moon));
         format!("{{\"time\": \"{}\", \"sun\": {{{sun}}}, \"moon\": {{{moon}}}}}", row.moment.written())
     };
-    let rows: Vec<String> = rows.iter().map(row).collect();
-    format::json_object(&[
+    let rows: Vec<String> = table.rows.iter().map(row).collect();
+    let Table { midnight, .. } = table;
+    let mut members = vec![
         format!("\"date\": \"{}\", \"zone\": \"{}\"", midnight.clock().date.written(), midnight.zone().written()),
-        format::json_spot(observer.spot),
-        format::json_scales(scales),
+        format::json_spot(table.observer.spot),
+        format::json_scales(table.scales),
         format::json_forecast(),
-        "\"refraction_included\": false".to_string(),
-        format!("\"places\": {}", format::json_rows(&rows)),
-    ])
+        format!("\"rise_set_elevation_degrees\": {}", passed_degrees()),
+    ];
+    members.extend(table.days.iter().map(format::json_day));
+    members.push("\"refraction_included\": false".to_string());
+    members.push(format!("\"places\": {}", format::json_rows(&rows)));
+    format::json_object(&members)
 }
 
-fn csv(scales: Scales, rows: &[Row]) -> String {
+// What is the same for the whole day stands on each line, so that each can be read alone.
+fn csv(table: &Table) -> String {
     let columns = "time,sun_azimuth_degrees,sun_elevation_degrees,moon_azimuth_degrees,moon_elevation_degrees";
+    let rise_set = "sun_rise_time,sun_set_time,sun_stays,moon_rise_time,moon_set_time,moon_stays";
+    let [sun_day, moon_day] = table.days.each_ref().map(format::csv_day);
+    let scales = format::csv_scales(table.scales);
     let row = |row: &Row| {
         let (sun, moon) = (format::csv_place(row.sun), format::csv_place(row.moon));
-        format!("{},{sun},{moon},{}", row.moment.written(), format::csv_scales(scales))
+        format!("{},{sun},{moon},{scales},{sun_day},{moon_day}", row.moment.written())
     };
-    format::csv(&format!("{columns},{}", format::CSV_SCALES), rows.iter().map(row))
+    format::csv(&format!("{columns},{},{rise_set}", format::CSV_SCALES), table.rows.iter().map(row))
 }
 
 #[cfg(test)]

@@ -73,6 +73,12 @@ impl Given {
 }
 
 impl Scales {
+    /// The least and the greatest delta-T of some.
+    pub fn range(all: impl Iterator<Item = Scales> + Clone) -> Option<(Scales, Scales)> {
+        let by_delta_t = |scales: &Scales| scales.offsets.delta_t_tenths;
+        all.clone().min_by_key(by_delta_t).zip(all.max_by_key(by_delta_t))
+    }
+
     pub fn ut1_seconds(self) -> String {
         decimal::written(self.offsets.ut1_tenths, SECOND_DECIMALS)
     }

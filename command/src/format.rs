@@ -5,7 +5,9 @@
 use crate::decimal;
 use crate::delta_t::Scales;
 use crate::failure::Failure;
+use crate::rise_set::Day;
 use crate::sky::{Body, Place, Spot, ANGLE_DECIMALS, POINT_DECIMALS};
+use crate::time::Moment;
 use crate::words::{Flag, Words};
 
 pub const FLAGS: &[Flag] = &[("--json", None), ("--csv", None)];
@@ -102,6 +104,19 @@ pub fn json_place(place: Place) -> String {
     format!("\"azimuth_degrees\": {}, \"elevation_degrees\": {}", angle(place.azimuth_e8), angle(place.elevation_e8))
 }
 
+/// The members that say when a body rises and sets, null where it does not.
+pub fn json_day(day: &Day) -> String {
+    let key = body_key(day.body);
+    let quoted = |word: Option<String>| word.map_or("null".to_string(), |word| format!("\"{word}\""));
+    let [rise, set, stays] = day_words(day).map(quoted);
+    format!("\"{key}_rise_time\": {rise}, \"{key}_set_time\": {set}, \"{key}_stays\": {stays}")
+}
+
+// Rise, set, and what it does that has neither.
+fn day_words(day: &Day) -> [Option<String>; 3] {
+    [day.rise.map(Moment::written), day.set.map(Moment::written), day.stays().map(|stays| stays.key().to_string())]
+}
+
 /// One element a line.
 pub fn json_rows(rows: &[String]) -> String {
     if rows.is_empty() {
@@ -126,6 +141,11 @@ pub fn csv_scales(scales: Scales) -> String {
 
 pub fn csv_place(place: Place) -> String {
     format!("{},{}", angle(place.azimuth_e8), angle(place.elevation_e8))
+}
+
+/// Rise, set and what it does that has neither, empty where there is none.
+pub fn csv_day(day: &Day) -> String {
+    day_words(day).map(Option::unwrap_or_default).join(",")
 }
 
 /// A head and its rows, each ended as the RFC has it.

@@ -2,7 +2,7 @@
 //!
 //! Answers go to the standard output, sentences to the standard error; the status is 0, 1 where an answer is refused or cannot be written, and 2 where the words of the
 //! command line are not right. An answer is complete before the first byte of it is written. What is proved is the library below (`sky` has every call of it), not this
-//! program: reading words, zones, the table of delta-T and the picture are ordinary Rust with tests.
+//! program: reading words, zones, the table of delta-T and the pictures are ordinary Rust with tests.
 #![forbid(unsafe_code)]
 
 mod batch;
@@ -17,9 +17,12 @@ mod middle;
 mod observer;
 mod picture;
 mod place;
+mod rise_set;
 mod sky;
+mod svg;
 mod time;
 mod words;
+mod year;
 
 use failure::{quoted, Failure};
 use std::ffi::OsString;
@@ -27,7 +30,8 @@ use std::io::{self, Write};
 use std::process::ExitCode;
 use words::{Command, Words};
 
-const COMMANDS: [&Command; 5] = [&day::COMMAND, &place::COMMAND, &batch::COMMAND, &middle::COMMAND, &picture::COMMAND];
+const COMMANDS: [&Command; 6] =
+    [&day::COMMAND, &place::COMMAND, &batch::COMMAND, &middle::COMMAND, &picture::COMMAND, &year::COMMAND];
 
 const ABOUT: &str = "raddlehue: where the Sun and the Moon stand
 ";

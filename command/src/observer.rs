@@ -1,10 +1,10 @@
 //! Where the observer stands and which time scales he asks for: the flags that most commands share, and how a heading says them.
 
 use crate::decimal::{self, Misread};
-use crate::delta_t::{Given, Scales, Source};
+use crate::delta_t::{Given, Scales, Source, OBSERVED_TO};
 use crate::failure::{quoted, Failure};
 use crate::sky::{Spot, View, POINT_DECIMALS, SECOND_DECIMALS};
-use crate::time::Moment;
+use crate::time::{Moment, Zone, UTC};
 use crate::words::{Flag, Words};
 
 pub const FLAGS: &[Flag] = &[
@@ -28,6 +28,21 @@ macro_rules! observer_help {
     };
 }
 pub(crate) use observer_help;
+
+pub const ZONE: &[Flag] = &[("--zone", Some("a zone"))];
+
+macro_rules! zone_help {
+    () => {
+        "  --zone ZONE       Z or like +13:00, the zone of dates and times; UTC unless
+                    given
+"
+    };
+}
+pub(crate) use zone_help;
+
+pub fn zone(words: &Words) -> Result<Zone, Failure> {
+    words.value("--zone").map_or(Ok(UTC), Zone::read)
+}
 
 #[derive(Clone, Copy, Debug)]
 pub struct Observer {
@@ -79,10 +94,35 @@ pub fn scales_words(scales: Scales) -> String {
 /// The same of a range from the least delta-T to the greatest; what they share of UT1 is said once.
 pub fn range_words(least: Scales, greatest: Scales) -> String {
     let ut1 = format!("UT1 minus UTC {} s ({})", least.ut1_seconds(), least.ut1_source.words());
+    format!("{ut1}\ndelta-T {} ({})\n", delta_t_range(least, greatest), source_of_both(least, greatest).words())
+}
+
+/// Both lines short enough for the width of a picture.
+pub fn short_range_words(least: Scales, greatest: Scales) -> [String; 2] {
+    let source = match source_of_both(least, greatest) {
+        source @ (Source::Given | Source::Assumed) => source.key().to_string(),
+        Source::Observed => format!("table, observed to {OBSERVED_TO}"),
+        Source::Forecast => format!("forecast since {OBSERVED_TO}"),
+    };
+    let ut1 = format!("UT1 minus UTC {} s ({})", least.ut1_seconds(), least.ut1_source.key());
+    [ut1, format!("delta-T {} ({source})", delta_t_range(least, greatest))]
+}
+
+fn delta_t_range(least: Scales, greatest: Scales) -> String {
     let (from, to) = (least.delta_t_seconds(), greatest.delta_t_seconds());
-    let source = if least.delta_t_source == greatest.delta_t_source { least.delta_t_source } else { Source::Observed };
-    let range = if from == to { format!("{from} s") } else { format!("{from} s to {to} s") };
-    format!("{ut1}\ndelta-T {range} ({})\n", source.words())
+    if from == to {
+        format!("{from} s")
+    } else {
+        format!("{from} s to {to} s")
+    }
+}
+
+fn source_of_both(least: Scales, greatest: Scales) -> Source {
+    if least.delta_t_source == greatest.delta_t_source {
+        least.delta_t_source
+    } else {
+        Source::Observed
+    }
 }
 
 // ---- degrees

@@ -2,9 +2,9 @@
 
 use crate::failure::Failure;
 use crate::time::{Clock, Moment};
-use raddlehue::{Air, Point, Refusal, Start};
+use raddlehue::{Air, Date, Point, Refusal, Start};
 
-pub use raddlehue::{Body, Place, Shown};
+pub use raddlehue::{Body, Place, RiseSet, Shown, DAY_MINUTES, RISE_SET_E8};
 
 /// Decimals of the library's angles, of a point's degrees and of a second.
 pub const ANGLE_DECIMALS: u32 = 8;
@@ -41,6 +41,11 @@ impl View {
     fn start(self) -> Start {
         let Offsets { ut1_tenths, delta_t_tenths } = self.offsets;
         start_of(self.moment.in_utc().clock()).ut1_tenths(ut1_tenths).delta_t_tenths(delta_t_tenths)
+    }
+
+    fn date(self) -> Date {
+        let Start { year, month, day, ut1_tenths, delta_t_tenths, .. } = self.start();
+        Date::utc(year, month, day).ut1_tenths(ut1_tenths).delta_t_tenths(delta_t_tenths)
     }
 
     fn point(self) -> Point {
@@ -86,6 +91,19 @@ pub fn places(view: View, body: Body, offsets_tenths: &[u32]) -> Result<Vec<Plac
         }
         _ => TrackRefused { index: None, failure: refused(refusal, view.moment) },
     })
+}
+
+/// A UTC date's curve, without refraction, and when the body rises and sets on it.
+pub struct UtcDay {
+    pub rise_set: RiseSet,
+    pub elevations_e8: [i64; DAY_MINUTES],
+}
+
+/// The UTC date on which the view's moment lies.
+pub fn utc_day(view: View, body: Body) -> Result<UtcDay, Failure> {
+    let mut elevations_e8 = [0; DAY_MINUTES];
+    let rise_set = raddlehue::day(view.date(), body, view.point(), &mut elevations_e8);
+    Ok(UtcDay { rise_set: rise_set.map_err(|refusal| refused(refusal, view.moment))?, elevations_e8 })
 }
 
 /// The middle of two azimuths, all in 1e-8 degree.

@@ -14,7 +14,7 @@ const ZONE_WOULD_BE: &str = "a zone is written Z or like +13:00, from -12:00 to 
 // ---- zones
 
 /// Minutes of a zone's clock ahead of UTC.
-#[derive(Clone, Copy, Debug, PartialEq, Eq)]
+#[derive(Clone, Copy, Debug, PartialEq, Eq, PartialOrd)]
 pub struct Zone {
     minutes: i64,
 }
@@ -62,7 +62,7 @@ impl Zone {
 // ---- moments
 
 /// A tenth of a second of UTC, counted from 2000-01-01 00:00, and the zone to write it in.
-#[derive(Clone, Copy, Debug, PartialEq, Eq)]
+#[derive(Clone, Copy, Debug, PartialEq, Eq, PartialOrd)]
 pub struct Moment {
     tenths: i64,
     zone: Zone,
@@ -121,6 +121,10 @@ impl Moment {
         Moment { tenths: self.tenths + i64::from(tenths), ..self }
     }
 
+    pub fn minutes_later(self, minutes: usize) -> Moment {
+        Moment { tenths: self.tenths + TENTHS_OF_MINUTE * minutes as i64, ..self }
+    }
+
     pub fn in_utc(self) -> Moment {
         Moment { zone: UTC, ..self }
     }
@@ -136,6 +140,12 @@ impl Moment {
             second: of_day / 10 % 60,
             tenth: of_day % 10,
         }
+    }
+
+    /// Whole minutes since the last midnight of its zone.
+    pub fn minute_of_day(self) -> usize {
+        let Clock { hour, minute, .. } = self.clock();
+        (60 * hour + minute) as usize
     }
 
     pub fn zone(self) -> Zone {
@@ -280,6 +290,8 @@ mod tests {
         let midnight = Moment::midnight("2026-11-15", Zone::read("+13:00").unwrap()).unwrap();
         assert_eq!(midnight.in_utc().written(), "2026-11-14T11:00:00Z");
         assert_eq!(midnight.later(36_000).hour_and_minute(), "01:00");
+        let later = midnight.minutes_later(61);
+        assert_eq!((later.hour_and_minute(), later.minute_of_day(), later.in_utc().minute_of_day()), ("01:01".into(), 61, 721));
         for word in ["", "2026", "2026-8-9", "20261115", "2026-11-15T00:00Z", "15.11.2026", "2026-11-1x", "２０２６-11-15"] {
             assert!(matches!(Moment::midnight(word, UTC), Err(Failure::Usage(_))), "{word:?}");
         }

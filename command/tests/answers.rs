@@ -6,6 +6,7 @@ use std::process::{Command, Output, Stdio};
 
 const BOULDER: [&str; 8] = ["--lat", "39.742476", "--lon", "-105.1786", "--height", "1830", "--delta-t", "67"];
 const DUNEDIN: [&str; 6] = ["--lat", "45.5S", "--lon", "170.5E", "--zone", "+13:00"];
+const TROMSO: [&str; 6] = ["--lat", "69.6496N", "--lon", "18.956E", "--zone", "+01:00"];
 
 fn raddlehue(words: &[&str]) -> Command {
     let mut command = Command::new(env!("CARGO_BIN_EXE_raddlehue"));
@@ -43,6 +44,64 @@ fn the_published_example() {
 
     let zoned = answer(&[&["place", "sun", "2003-10-17T12:30:30-07:00"], &BOULDER[..]].concat(), "");
     assert!(zoned.contains("(2003-10-17T19:30:30Z)") && zoned.contains("194.34024073"), "{zoned}");
+}
+
+// 004 has 13:12:43 and 00:20:19 UT, the set being that of the day before in Boulder.
+#[test]
+fn the_published_sunrise() {
+    let text = answer(&[&["day", "2003-10-17"], &BOULDER[..]].concat(), "");
+    assert!(text.contains("the Sun sets at 00:21 and rises at 13:13\n"), "{text}");
+    let zoned = answer(&[&["day", "2003-10-17", "--zone", "-07:00"], &BOULDER[..]].concat(), "");
+    assert!(zoned.contains("the Sun rises at 06:13 and sets at 17:19\n"), "{zoned}");
+    let before = answer(&[&["day", "2003-10-16", "--zone", "-07:00"], &BOULDER[..]].concat(), "");
+    assert!(before.contains(" and sets at 17:21\n"), "{before}");
+}
+
+#[test]
+fn a_body_that_does_not_rise_or_set() {
+    let (tromso, greenwich) = (&TROMSO[..4], &["--lat", "51.4769", "--lon", "0", "--delta-t", "69.1"][..]);
+    let days = [
+        (
+            ["day", "2026-06-21"],
+            tromso,
+            "the Sun does not set: it stays up all day",
+            "Sun: does not set, up all day",
+            "\"sun_rise_time\": null, \"sun_set_time\": null, \"sun_stays\": \"up\"",
+            ",,,up,",
+        ),
+        (
+            ["day", "2026-12-21"],
+            tromso,
+            "the Sun does not rise: it stays below the horizon all day",
+            "Sun: does not rise, down all day",
+            "\"sun_rise_time\": null, \"sun_set_time\": null, \"sun_stays\": \"down\"",
+            ",,,down,",
+        ),
+        (
+            ["day", "2026-11-03"],
+            greenwich,
+            "the Moon sets at 14:18 and does not rise on this day",
+            "Moon: sets 14:18, does not rise",
+            "\"moon_rise_time\": null, \"moon_set_time\": \"2026-11-03T14:18:00Z\", \"moon_stays\": null",
+            ",,2026-11-03T14:18:00Z,\r\n",
+        ),
+        (
+            ["day", "2026-11-18"],
+            greenwich,
+            "the Moon rises at 13:26 and does not set on this day",
+            "Moon: rises 13:26, does not set",
+            "\"moon_rise_time\": \"2026-11-18T13:26:00Z\", \"moon_set_time\": null, \"moon_stays\": null",
+            ",2026-11-18T13:26:00Z,,\r\n",
+        ),
+    ];
+    for (day, place, sentence, short, json, csv) in days {
+        let said = |words: &[&str]| answer(&[&day[..], words, place].concat(), "");
+        assert!(said(&[]).contains(&format!("\n{sentence}\n")), "{}", said(&[]));
+        assert!(said(&["--json"]).contains(json), "{}", said(&["--json"]));
+        assert!(said(&["--csv"]).contains(csv), "{}", said(&["--csv"]));
+        let picture = answer(&[&["picture", day[1]], place].concat(), "");
+        assert!(picture.contains(&format!(">{short}</text>")), "{short}");
+    }
 }
 
 #[test]
@@ -119,7 +178,7 @@ fn forms_have_units_in_their_names() {
     assert!(csv.starts_with(
         "time,sun_azimuth_degrees,sun_elevation_degrees,moon_azimuth_degrees,moon_elevation_degrees,ut1_minus_utc_seconds,"
     ));
-    assert!(csv.split_terminator("\r\n").all(|row| columns(row) == 9 && !row.contains(['\r', '\n'])), "{csv}");
+    assert!(csv.split_terminator("\r\n").all(|row| columns(row) == 15 && !row.contains(['\r', '\n'])), "{csv}");
 }
 
 #[test]
@@ -129,6 +188,7 @@ fn no_locale_changes_a_byte() {
         &["day", "2026-10-10", "--json"],
         &["day", "2026-10-10", "--csv"],
         &["picture", "2026-10-10"],
+        &["year", "2026"],
     ];
     for words in commands {
         let in_locale =
@@ -144,7 +204,7 @@ fn help_and_version_are_answers() {
     let help = answer(&["--help"], "");
     let fits = |page: &str| page.lines().all(|line| line.len() <= 80);
     assert!(fits(&help), "a page fits a terminal");
-    for command in ["day", "place", "batch", "middle", "picture"] {
+    for command in ["day", "place", "batch", "middle", "picture", "year"] {
         assert!(help.contains(&format!("raddlehue {command} ")), "{command}");
         let page = answer(&[command, "--help"], "");
         assert!(page.starts_with(&format!("raddlehue {command} ")) && fits(&page), "{command}");
@@ -202,12 +262,62 @@ fn no_path_jumps() {
     }
 }
 
+// ---- a year
+
+#[test]
+fn a_year_is_its_days() {
+    let table = answer(&[&["year", "2026", "--csv"], &TROMSO[..]].concat(), "");
+    let rows: Vec<Vec<&str>> = table.split_terminator("\r\n").map(|row| row.split(',').collect()).collect();
+    assert_eq!(rows[0][..4], ["date", "sun_rise_time", "sun_set_time", "sun_stays"]);
+    assert!(rows.len() == 366 && rows.iter().all(|row| row.len() == 8));
+    assert_eq!((rows[1][0], rows[365][0]), ("2026-01-01", "2026-12-31"));
+    for index in [1, 15, 16, 100, 137, 138, 205, 206, 207, 331, 332, 365] {
+        let date = rows[index][0];
+        let day = answer(&[&["day", date, "--csv", "--every", "1440"], &TROMSO[..]].concat(), "");
+        let day: Vec<&str> = day.lines().nth(1).unwrap().split(',').collect();
+        assert_eq!(rows[index][1..4], day[9..12], "{date}");
+        assert_eq!(rows[index][4..], day[5..9], "{date}");
+    }
+    let staying = |side: &str| rows.iter().filter(|row| row[3] == side).count();
+    assert_eq!((staying("up"), staying("down")), (68, 48));
+    assert_eq!(rows.iter().filter(|row| row[1].is_empty() != row[2].is_empty()).count(), 1);
+}
+
+#[test]
+fn a_year_can_be_heard_and_read() {
+    let svg = answer(&[&["year", "2024", "--delta-t", "69.2"], &TROMSO[..]].concat(), "");
+    for part in [
+        "<title id=\"raddlehue-title\">Sunrise and sunset in 2024, 69.6496° N, 18.956° E, UTC+01:00</title>",
+        "<desc id=\"raddlehue-desc\">Sunrise and sunset through 2024 from latitude 69.6496 N, longitude 18.956 E, height 0 m, times in UTC+01:00.",
+        "up all day on ",
+        "down all day on ",
+        "role=\"img\"",
+        "prefers-color-scheme: dark",
+        "viewBox=\"0 0 1000 ",
+        "delta-T 69.2 s (given)",
+        "width=\"878.4\"",
+    ] {
+        assert!(svg.contains(part), "{part}");
+    }
+    assert!(svg.contains("stroke-dasharray"), "the line of sunset is told apart without colour");
+    assert!(svg.contains("font: 36px") && svg.matches("font-size").count() == 1, "text has at least 3.5 % of the width");
+    assert!(!svg.contains("NaN") && !svg.contains("inf"));
+}
+
+// At a pole the Sun rises on one day of the year and sets on another: each is a mark, since no line goes through it.
+#[test]
+fn a_year_at_a_pole() {
+    let svg = answer(&["year", "2026", "--lat", "90S", "--lon", "0"], "");
+    assert!(svg.contains("<path class=\"rise\" d=\"\"/>") && svg.contains("<path class=\"set\" d=\"\"/>"));
+    assert_eq!((svg.matches("class=\"rise-mark\"").count(), svg.matches("class=\"set-mark\"").count()), (1, 1));
+}
+
 // ---- streams
 
 #[cfg(target_os = "linux")]
 #[test]
 fn a_full_disk_is_an_error() {
-    for words in [&["day", "2026-10-10"][..], &["picture", "2026-10-10"]] {
+    for words in [&["day", "2026-10-10"][..], &["picture", "2026-10-10"], &["year", "2026"]] {
         let full = OpenOptions::new().write(true).open("/dev/full").unwrap();
         let output = raddlehue(&[words, &DUNEDIN].concat()).stdout(full).output().unwrap();
         assert_eq!(output.status.code(), Some(1));

@@ -56,6 +56,27 @@ fn dates() {
 }
 
 #[test]
+fn years() {
+    let words = [
+        "26", "202", "02026", "20 6", "2026 ", " 2026", "2026-01", "2026-01-01", "-2026", "0x7ea", "2e3", "2026.0", "MMXXVI",
+        "this", "", "inf", "nan", "２０２６", "٢٠٢٦",
+    ];
+    for word in words {
+        refused(&here(&["year", word]), "", 2, word);
+    }
+    for word in ["+2026", "-", "--2026"] {
+        refused(&here(&["year", word]), "", 2, word);
+    }
+    for word in ["1899", "2101", "0000", "9999"] {
+        refused(&here(&["year", word]), "", 1, word);
+        refused(&here(&["year", word, "--csv"]), "", 1, word);
+    }
+    // A zone's year has to lie within the years of UTC as a whole.
+    refused(&here(&["year", "1900", "--zone", "+00:01"]), "", 1, "1900");
+    refused(&here(&["year", "2100", "--zone", "-00:01"]), "", 1, "2100");
+}
+
+#[test]
 fn times() {
     let words = [
         "2026-08-09", "2026-08-09T12:00", "2026-08-09T12:00:00", "2026-08-09 12:00Z", "2026-08-09T12Z", "2026-08-09T12:00:00,5Z",
@@ -81,6 +102,7 @@ fn zones_and_steps() {
     for word in ["13", "+13", "+1300", "UTC", "NZDT", "east", "", "+24:00", "+13:60", "-00:00", "z"] {
         refused(&here(&["day", "2026-08-09", "--zone", word]), "", 2, word);
         refused(&here(&["picture", "2026-08-09", "--zone", word]), "", 2, word);
+        refused(&here(&["year", "2026", "--zone", word]), "", 2, word);
     }
     for word in ["0", "-1", "1441", "0.5", "1e1", "0x10", "ten", "", "inf", "010", "99999999999999999999"] {
         refused(&here(&["day", "2026-08-09", "--every", word]), "", 2, word);
@@ -109,6 +131,7 @@ fn degrees() {
     for word in ["91", "-90.0000001", "90.0000001N", "99999999999", "91S"] {
         refused(&["day", "2026-08-09", "--lat", word, "--lon", "5.2"], "", 1, word);
         refused(&["picture", "2026-08-09", "--lat", word, "--lon", "5.2"], "", 1, word);
+        refused(&["year", "2026", "--lat", word, "--lon", "5.2"], "", 1, word);
     }
     for word in ["181", "-180.0000001", "360E"] {
         refused(&["day", "2026-08-09", "--lat", "5.2", "--lon", word], "", 1, word);
@@ -132,6 +155,7 @@ fn other_numbers() {
         ("--delta-t", "-8000.1"),
     ] {
         refused(&here(&["day", "2026-08-09", flag, word]), "", 1, word);
+        refused(&here(&["year", "2026", flag, word]), "", 1, word);
     }
     let at = ["place", "sun", "2026-08-09T12:00Z"];
     for word in ["thin", "", "1e3", "inf", "nan", "1013,2", "0.1234567"] {
@@ -173,6 +197,11 @@ fn flags() {
     refused(&["day", "2026-08-09", "--lon", "5"], "", 2, "--lat");
     refused(&["day", "2026-08-09", "--lat", "5"], "", 2, "--lon");
     refused(&here(&["picture", "2026-08-09", "--json"]), "", 2, "--json");
+    refused(&here(&["year", "2026", "--json"]), "", 2, "--json");
+    refused(&here(&["year", "2026", "--every", "60"]), "", 2, "--every");
+    refused(&here(&["year", "2026", "--csv", "--csv"]), "", 2, "--csv");
+    refused(&here(&["year", "2026", "--csv", "2027"]), "", 2, "2027");
+    refused(&["year", "2026", "--lon", "5"], "", 2, "--lat");
     refused(&["middle", "0", "1", "--lat", "5"], "", 2, "--lat");
 }
 
@@ -186,7 +215,9 @@ fn commands() {
         refused(&here(&["place", word, "2026-08-09T12:00Z"]), "", 2, word);
         refused(&here(&["batch", word]), "", 2, word);
     }
-    for words in [&[][..], &["day"], &["place"], &["place", "sun"], &["batch"], &["middle"], &["middle", "0"], &["picture"]] {
+    for words in
+        [&[][..], &["day"], &["place"], &["place", "sun"], &["batch"], &["middle"], &["middle", "0"], &["picture"], &["year"]]
+    {
         let output = run(words, b"");
         assert_eq!((output.status.code(), output.stdout.len()), (Some(2), 0), "{words:?}");
         assert!(String::from_utf8(output.stderr).unwrap().contains("missing"), "{words:?}");

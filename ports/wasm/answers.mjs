@@ -8,12 +8,12 @@ import { load } from './raddlehue.mjs';
 const sky = await load(readFileSync(process.argv[2]));
 const raw = sky.raw;
 const POISON = 0x5a5a5a5a5a5a5a5an;
-const [SIDE, ROOM, CELLS] = [2, 8, 10];
+const [SIDE, ROOM, CELLS, MINUTES] = [2, 8, 10, 1440];
 
 // beyond what raddlehue.mjs uses of the memory
 raw.memory.grow(1);
 const base = raw.memory.buffer.byteLength - 65536;
-const [start, point, lent, offsets, buffers] = [base, base + 96, base + 256, base + 1024, base + 2048];
+const [start, point, lent, offsets, buffers, curve] = [base, base + 96, base + 256, base + 1024, base + 2048, base + 4096];
 const view = () => new DataView(raw.memory.buffer);
 
 const big = (word) => BigInt.asIntN(64, BigInt(`0x${word}`));
@@ -43,6 +43,7 @@ const lend = () => (put(lent, Array(SIDE + ROOM + SIDE).fill(POISON)), lent + 8 
 
 const named = (names, numbers) => Object.fromEntries(names.map((name, i) => [name, numbers[i]]));
 const START = ['year', 'month', 'day', 'hour', 'minute', 'second', 'fraction_tenths', 'ut1_tenths', 'delta_t_tenths'];
+const DATE = ['year', 'month', 'day', 'ut1_tenths', 'delta_t_tenths'];
 const POINT = ['longitude_e7', 'latitude_e7', 'height_metres'];
 const airOf = (given) => ({ kind: code(given[0]), pressure_mbar: double(given[1]), temperature_celsius: double(given[2]) });
 
@@ -98,6 +99,38 @@ function batch(given, line) {
   return [...said, ...cells.map(hex)];
 }
 
+// The curve's cells: how many are still poisoned, the digest of tests/vectors/days.txt, and what was written beside them.
+function curveWords() {
+  const said = [];
+  let [poisoned, digest] = [0n, 0xcbf29ce484222325n];
+  for (let i = 0; i < SIDE + MINUTES + SIDE; i++) {
+    const word = view().getBigUint64(curve + 8 * i, true);
+    if (i >= SIDE && i < SIDE + MINUTES) {
+      poisoned += word === POISON ? 1n : 0n;
+      digest = BigInt.asUintN(64, (digest ^ word) * 0x100000001b3n);
+    } else if (word !== POISON) said.push('BESIDE', i.toString(16), hex(word));
+  }
+  return [...said, hex(poisoned), hex(digest)];
+}
+
+function day(given, line) {
+  const [date, body, place] = [given.slice(0, 5).map(big), code(given[5]), given.slice(6).map(big)];
+  put(start, date);
+  put(point, place);
+  put(curve, Array(SIDE + MINUTES + SIDE).fill(POISON));
+  const refusal = raw.raddlehue_day(start, body, point, curve + 8 * SIDE, lend());
+  const said = [...words(refusal, 2), ...curveWords()];
+  // raddlehue.mjs names a minute only where there is one; as two words of 32 bits each, the flag below
+  const ours = sky.day(named(DATE, date), body, named(POINT, place));
+  if (ours.refusal !== refusal >>> 0) fail(line, `raddlehue.mjs has refusal ${ours.refusal}`);
+  if (refusal === 0) {
+    const minutes = [ours.rise_minute, ours.set_minute].map((minute) => (minute === undefined ? '0' : hex((BigInt(minute) << 32n) + 1n)));
+    const same = ours.elevations_e8.length === MINUTES && ours.elevations_e8.every((elevation, i) => elevation === view().getBigInt64(curve + 8 * (SIDE + i), true));
+    if (!same || minutes.join(' ') !== said.slice(1, 3).join(' ')) fail(line, 'raddlehue.mjs has another day');
+  } else if (Object.keys(ours).length > 1) fail(line, 'raddlehue.mjs has more than the refusal');
+  return said;
+}
+
 const written = [];
 for (const line of readFileSync(0, 'utf8').split('\n').slice(0, -1)) {
   const [left] = line.split(' -> ');
@@ -110,6 +143,8 @@ for (const line of readFileSync(0, 'utf8').split('\n').slice(0, -1)) {
     said = [hex(number)];
   } else if (name === 'batch') {
     said = batch(given, line);
+  } else if (name === 'day') {
+    said = day(given, line);
   } else {
     const [count, arguments_, ours] = CALLS[name];
     said = words(raw[`raddlehue_${name}`](...arguments_(given)), count);

@@ -1,4 +1,4 @@
-// node ports/wasm/calls.mjs RADDLEHUE.WASM : raddlehue.mjs as a page uses it. Its own example, a day by the minute against single places, and what it has to throw at.
+// node ports/wasm/calls.mjs RADDLEHUE.WASM : raddlehue.mjs as a page uses it. Its own example, days by the minute against single places, and what it has to throw at.
 import assert from 'node:assert/strict';
 import { readFileSync } from 'node:fs';
 import { AIR_NONE, AIR_STANDARD, MOON, SUN, load, measured } from './raddlehue.mjs';
@@ -38,6 +38,24 @@ for (let minute = 0; minute < week.length; minute += 97) {
 const eve = { ...start, year: 2100, month: 12, day: 31, hour: 23, minute: 59, second: 59 };
 assert.deepEqual(sky.batch(eve, SUN, point, [0, 9, 10]), { refusal: 13, index: 2 });
 assert.deepEqual(sky.batch(start, SUN, point, []).azimuths_e8, new BigInt64Array(0));
+
+// a day against its places, a rise and a set, a polar day that has neither name, and a refusal
+const date = { year: 2003, month: 10, day: 17, ut1_tenths: 0, delta_t_tenths: 670 };
+const day = sky.day(date, SUN, point);
+assert.deepEqual(Object.keys(day), ['refusal', 'elevations_e8', 'rise_minute', 'set_minute']);
+assert.equal(day.elevations_e8.length, 1440);
+for (let minute = 0; minute < 1440; minute += 97) {
+  const at = { ...start, hour: Math.floor(minute / 60), minute: minute % 60, second: 0 };
+  assert.equal(sky.place(at, SUN, point).elevation_e8, day.elevations_e8[minute]);
+}
+const isUp = (minute) => day.elevations_e8[minute] >= -83330000n;
+assert.ok(isUp(day.rise_minute) && !isUp(day.rise_minute - 1) && !isUp(day.set_minute) && isUp(day.set_minute - 1));
+const polar = sky.day({ ...date, month: 6 }, SUN, { ...point, latitude_e7: 800000000 });
+assert.deepEqual(Object.keys(polar), ['refusal', 'elevations_e8']);
+assert.deepEqual(sky.day({ ...date, day: 32 }, SUN, point), { refusal: 3 });
+assert.deepEqual(sky.day(date, 2, point), { refusal: 101 });
+assert.throws(() => sky.day({ ...date, year: 2003.5 }, SUN, point), RangeError);
+assert.throws(() => sky.day(start.year, SUN, point), TypeError);
 
 // what is no number of 64 bits, or of 32, never reaches the module
 for (const year of [2003.5, NaN, Infinity, undefined, null, '', 'x', 2n ** 63n, -(2n ** 63n) - 1n]) {

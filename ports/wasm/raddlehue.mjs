@@ -8,13 +8,16 @@
  *
  * A call gives an object: `refusal` is 0 and the answer's names stand beside it, or it is the number of the refusal, and (but for the index of a batch) nothing else.
  * Names and numbers are those of include/raddlehue.h and docs/REFUSALS.md; names say their unit (_e7 and _e8 are 1e-7 and 1e-8 degree, _tenths are tenths of a second).
- * Whole numbers may be given as Number or BigInt and come back as BigInt, exact; degrees, mbar and degrees Celsius are Numbers. What is no whole number, or none of
- * 64 bits, is a TypeError or a RangeError; every other number may be given, and what cannot be answered is refused.
+ * Whole numbers may be given as Number or BigInt and come back as BigInt, exact; minutes, degrees, mbar and degrees Celsius are Numbers. What is no whole number, or
+ * none of 64 bits, is a TypeError or a RangeError; every other number may be given, and what cannot be answered is refused.
  *
  *     place(start, body, point[, air])         azimuth_e8, elevation_e8
  *     shown_place(start, body, point[, air])   azimuth_degrees, elevation_degrees, refraction_degrees
  *     batch(start, body, point, offsets)       azimuths_e8, elevations_e8: a BigInt64Array each, an entry for each offset (Uint32Array or list, in tenths);
  *                                              where the refusal is 13, index: the first offset that is too late
+ *     day(date, body, point)                   elevations_e8: a BigInt64Array, the elevation at each of the date's 1,440 minutes of UTC; rise_minute, set_minute: 0 to 1439,
+ *                                              the first at which the body is at or above -0.8333 degree and was not the minute before, and the reverse; where there
+ *                                              is none, as on a polar day, the name is missing. A date is { year, month, day, ut1_tenths, delta_t_tenths }
  *     middle(a_e8, b_e8)                       azimuth_e8
  *     refraction(elevation_e8, air)            refraction_degrees
  *     day_count(year, month, day)              days
@@ -38,7 +41,9 @@ export const AIR_STANDARD = Object.freeze({ kind: 1, pressure_mbar: 0, temperatu
 export const measured = (pressure_mbar, temperature_celsius) => ({ kind: 2, pressure_mbar, temperature_celsius });
 
 const START = ['year', 'month', 'day', 'hour', 'minute', 'second', 'fraction_tenths', 'ut1_tenths', 'delta_t_tenths'];
+const DATE = ['year', 'month', 'day', 'ut1_tenths', 'delta_t_tenths'];
 const POINT = ['longitude_e7', 'latitude_e7', 'height_metres'];
+const MINUTES = 1440;
 
 /* A whole number of 64 bits; BigInt() itself throws at a fraction and at NaN. */
 function whole(number, name) {
@@ -71,7 +76,7 @@ class Raddlehue {
 
   constructor(instance) {
     this.#raw = instance.exports;
-    // what is handed to a call lies above all that the module has: the start, the point and the answer, then a batch's lists
+    // what is handed to a call lies above all that the module has: the start, the point and the answer, then a batch's lists or a day's curve
     this.#base = this.#raw.__heap_base.value + 15 & ~15;
     this.#memory(256);
   }
@@ -158,6 +163,21 @@ class Raddlehue {
       answer.elevations_e8 = new BigInt64Array(buffer.slice(elevations, elevations + 8 * count));
     } else if (refusal === 13) {
       answer.index = Number(this.#memory(256).getBigUint64(this.#answer, true));
+    }
+    return answer;
+  }
+
+  day(date, body, point) {
+    const curve = this.#base + 256;
+    this.#memory(256 + 8 * MINUTES);
+    const refusal = this.#raw.raddlehue_day(this.#put(this.#base, DATE, date), code(body, 'body'), this.#point(point), curve, this.#answer) >>> 0;
+    const answer = { refusal };
+    if (refusal === 0) {
+      answer.elevations_e8 = new BigInt64Array(this.#raw.memory.buffer.slice(curve, curve + 8 * MINUTES));
+      // a flag and a minute of 32 bits for the rise, and for the set
+      const told = new Uint32Array(this.#raw.memory.buffer.slice(this.#answer, this.#answer + 16));
+      if (told[0]) answer.rise_minute = told[1];
+      if (told[2]) answer.set_minute = told[3];
     }
     return answer;
   }

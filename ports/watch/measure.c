@@ -1,5 +1,5 @@
-/* What a call costs on the watch's processor: a line "CALL COUNT STACK" for each. The plugin sections.so counts the instructions between section_begin and
- * section_end, in the same order. The first line is a call of nothing: what the measuring itself takes.
+/* What a call costs on the watch's processor: a line "CALL TURNS EACH STACK" for each, the turns it was called and the samples of one call. The plugin sections.so
+ * counts the instructions between section_begin and section_end, in the same order. The first line is a call of nothing: what the measuring itself takes.
  */
 #include <stdint.h>
 
@@ -11,23 +11,26 @@ extern uint32_t stack_floor;
 __attribute__((noinline)) void section_begin(void) { __asm__ volatile("nop"); }
 __attribute__((noinline)) void section_end(void) { __asm__ volatile("nop"); }
 
-enum { REQUESTS = 20, SAMPLES = 60 };
+/* A day is 1,440 samples: one is enough. */
+enum { REQUESTS = 20, DAYS = 1, SAMPLES = 60, MINUTES = 1440 };
 
 #define PAINT 0xA5A5A5A5u
 
 static int64_t request[REQUESTS][12];
 static uint32_t offsets[SAMPLES];
-static int64_t azimuths[SAMPLES], elevations[SAMPLES];
+static int64_t azimuths[SAMPLES], elevations[SAMPLES], curve[MINUTES];
 static const double pressure = 820.0, temperature = 11.0;
 static uint32_t body;
 static volatile uint32_t kept;
 
 static const raddlehue_start_t *start;
 static const raddlehue_point_t *point;
+static raddlehue_date_t date;
 static int64_t elevation, a, b;
 static raddlehue_place_t place;
 static raddlehue_shown_place_t shown;
 static raddlehue_batch_t told;
+static raddlehue_rise_set_t rise_set;
 static int64_t azimuth;
 static double degrees;
 
@@ -35,6 +38,7 @@ static void nothing(void) {}
 static void a_place(void) { kept = raddlehue_place(start, body, point, RADDLEHUE_AIR_MEASURED, pressure, temperature, &place); }
 static void a_shown_place(void) { kept = raddlehue_shown_place(start, body, point, RADDLEHUE_AIR_MEASURED, pressure, temperature, &shown); }
 static void a_batch(void) { kept = raddlehue_batch(start, body, point, offsets, SAMPLES, azimuths, SAMPLES, elevations, SAMPLES, &told); }
+static void a_day(void) { kept = raddlehue_day(&date, body, point, curve, &rise_set); }
 static void a_refraction(void) { kept = raddlehue_refraction(elevation, RADDLEHUE_AIR_MEASURED, pressure, temperature, &degrees); }
 static void a_middle(void) { kept = raddlehue_middle(a, b, &azimuth); }
 
@@ -68,20 +72,21 @@ static void choose(int i) {
     const int64_t *n = request[i];
     start = (const raddlehue_start_t *)(const void *)n;
     point = (const raddlehue_point_t *)(const void *)(n + 9);
+    date = (raddlehue_date_t){start->year, start->month, start->day, start->ut1_tenths, start->delta_t_tenths};
     elevation = n[10] * 10, a = n[9] + 1800000000, b = n[10] * 10 + 9000000000;
 }
 
 /* A call that is refused would cost next to nothing, and is not measured. */
-static void row(const char *name, void (*call)(void), uint32_t each) {
+static void row(const char *name, void (*call)(void), int turns, uint32_t each) {
     static char line[80];
     uint32_t stack = 0, refused = 0;
     section_begin();
-    for (int i = 0; i < REQUESTS; i++) {
+    for (int i = 0; i < turns; i++) {
         choose(i);
         call();
     }
     section_end();
-    for (int i = 0; i < REQUESTS; i++) {
+    for (int i = 0; i < turns; i++) {
         choose(i);
         uint32_t used = used_by(call);
         stack = used > stack ? used : stack;
@@ -92,7 +97,9 @@ static void row(const char *name, void (*call)(void), uint32_t each) {
         *to++ = *name++;
     }
     *to++ = ' ';
-    to = decimal(to, REQUESTS * each);
+    to = decimal(to, (uint32_t)turns);
+    *to++ = ' ';
+    to = decimal(to, each);
     *to++ = ' ';
     to = decimal(to, stack);
     *to++ = '\n';
@@ -112,13 +119,14 @@ int main(void) {
         offsets[i] = i * 600;
     }
     kept = 0;
-    row("nothing", nothing, 1);
+    row("nothing", nothing, REQUESTS, 1);
     for (body = 0; body < 2; body++) {
-        row(body ? "place-Moon" : "place-Sun", a_place, 1);
-        row(body ? "shown_place-Moon" : "shown_place-Sun", a_shown_place, 1);
-        row(body ? "batch-Moon" : "batch-Sun", a_batch, SAMPLES);
+        row(body ? "place-Moon" : "place-Sun", a_place, REQUESTS, 1);
+        row(body ? "shown_place-Moon" : "shown_place-Sun", a_shown_place, REQUESTS, 1);
+        row(body ? "batch-Moon" : "batch-Sun", a_batch, REQUESTS, SAMPLES);
+        row(body ? "day-Moon" : "day-Sun", a_day, DAYS, MINUTES);
     }
-    row("refraction", a_refraction, 1);
-    row("middle", a_middle, 1);
+    row("refraction", a_refraction, REQUESTS, 1);
+    row("middle", a_middle, REQUESTS, 1);
     return 0;
 }

@@ -108,6 +108,17 @@ pub unsafe extern "C" fn raddlehue_batch(
 }
 
 #[no_mangle]
+pub extern "C" fn raddlehue_day(n: &[i64; 5], body: u32, point: &[i64; 3], elevations: &mut [i64; day::MINUTES], lent: &mut [u32; 4]) -> u32 {
+    if body > 1 {
+        return 101;
+    }
+    let date = Date { year: n[0], month: n[1], day: n[2], ut1: n[3], delta_t: n[4] };
+    let found = day(date, body_of(body), point_of(point), elevations);
+    let told = found.map(|found| [found.rise, found.set].map(|minute| minute.map_or([0, 0], |minute| [1, minute as u32])));
+    write(told.map(|[rise, set]| [rise[0], rise[1], set[0], set[1]]), lent)
+}
+
+#[no_mangle]
 pub extern "C" fn raddlehue_middle(a: i64, b: i64, lent: &mut i64) -> u32 {
     write(middle(a, b), lent)
 }

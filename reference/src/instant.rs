@@ -11,6 +11,9 @@ pub const MILLENNIUM: i64 = 10 * CENTURY;
 /// The scale of `Time`'s powers.
 const MILLION: i64 = 1_000_000;
 
+/// First moment of UTC that is accepted, 1900-01-01 00:00, in tenths from 2000-01-01 00:00.
+const FIRST_UTC: i64 = 864_000 * -36_524;
+
 /// Last moment of UTC that is accepted, 2100-12-31 23:59:59.9, in tenths from 2000-01-01 00:00.
 const LAST_UTC: i64 = 864_000 * 36_889 + 863_999;
 
@@ -40,6 +43,13 @@ impl Instant {
     pub fn after(&self, offset: u32) -> Self {
         let offset = i64::from(offset);
         Self { ut: self.ut + offset, tt: self.tt + offset, left: self.left - offset }
+    }
+
+    /// The instant so many tenths earlier, where it is accepted; the same time corrections hold.
+    pub fn before(&self, offset: u32) -> Option<Self> {
+        let offset = i64::from(offset);
+        let left = self.left + offset;
+        (FIRST_UTC <= LAST_UTC - left).then(|| Self { ut: self.ut - offset, tt: self.tt - offset, left })
     }
 }
 

@@ -1,7 +1,8 @@
 //! Places of the Sun and the Moon from a point on Earth, by whole-number rules.
 //!
-//! An ordinary Rust version of the rules of document 01 and of the NREL reports it rests on. It was written from
-//! those papers alone, as an independent second program against which the proved code is tested.
+//! An ordinary Rust version of the rules of document 01, of the requests of document 02 that have landed, and of the
+//! NREL reports that they rest on. It was written from those papers alone, as an independent second program against
+//! which the proved code is tested.
 //!
 //! Units throughout, unless a comment says otherwise:
 //!
@@ -15,6 +16,7 @@
 
 pub mod batch;
 pub mod calendar;
+pub mod day;
 pub mod heading;
 pub mod instant;
 pub mod moon;
@@ -30,6 +32,7 @@ pub mod tables;
 
 pub use batch::batch;
 pub use calendar::day_count;
+pub use day::{day, Date, RiseSet};
 pub use heading::middle;
 pub use moon::{moon, Moon};
 pub use numbers::{arctangent, cosine, root, sine};

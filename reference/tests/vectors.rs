@@ -6,12 +6,19 @@ use std::path::Path;
 
 use raddlehue_reference::*;
 
+#[allow(dead_code)]
+#[path = "../examples/days.rs"]
+mod day_lines;
+
+fn read(name: &str) -> String {
+    let path = Path::new(env!("CARGO_MANIFEST_DIR")).join("../tests/vectors").join(name);
+    fs::read_to_string(path).expect("the vectors are in the repository")
+}
+
 /// Checks every line of a file, and gives the count of lines of each kind.
 fn check_file(name: &str) -> BTreeMap<String, usize> {
-    let path = Path::new(env!("CARGO_MANIFEST_DIR")).join("../tests/vectors").join(name);
-    let text = fs::read_to_string(path).expect("the vectors are in the repository");
     let mut counts = BTreeMap::new();
-    for line in text.lines() {
+    for line in read(name).lines() {
         let (kind, rest) = line.split_once(' ').expect("a kind, then its numbers");
         let (input, answer) = rest.split_once('|').expect("a question and an answer");
         match kind {
@@ -54,6 +61,15 @@ fn leaves() {
         ("sun", 4),
     ];
     assert_eq!(check_file("leaves.txt"), counted(&expected));
+}
+
+#[test]
+fn days() {
+    let text = read("days.txt");
+    for line in text.lines() {
+        assert_eq!(day_lines::answered(line).as_deref(), Some(line));
+    }
+    assert_eq!(text.lines().filter(|line| line.starts_with("day ")).count(), 81);
 }
 
 fn body(word: &str) -> Body {

@@ -1,7 +1,7 @@
 //! The archive's exports, and all the `unsafe` of this package: `include/raddlehue.h` says what each means.
 #![allow(unsafe_code)]
 
-use crate::{Instant, MoonSums, Nutation, Place, Point, Shown, Start, SunSums};
+use crate::{Date, Instant, MoonSums, Nutation, Place, Point, Shown, Start, SunSums, DAY_MINUTES};
 
 /// What a batch tells beside its refusal.
 #[repr(C)]
@@ -11,6 +11,16 @@ pub struct Batch {
     pub count: u64,
 }
 
+/// Rise and set as C has them: before each minute a flag, 1 or 0.
+#[repr(C)]
+#[derive(Default)]
+pub struct RiseSet {
+    pub has_rise: u32,
+    pub rise_minute: u32,
+    pub has_set: u32,
+    pub set_minute: u32,
+}
+
 // The sizes that `tests/header.c` finds in C.
 const _: () = {
     assert!(size_of::<Start>() == 72);
@@ -18,14 +28,16 @@ const _: () = {
     assert!(size_of::<Place>() == 16);
     assert!(size_of::<Shown>() == 24);
     assert!(size_of::<Batch>() == 16);
+    assert!(size_of::<Date>() == 40);
+    assert!(size_of::<RiseSet>() == 16);
     assert!(size_of::<Instant>() == 16);
     assert!(size_of::<MoonSums>() == 24);
     assert!(size_of::<SunSums>() == 24);
     assert!(size_of::<Nutation>() == 24);
 };
 
-// SAFETY: these are the header's declarations, with a reference for each pointer to one thing: it is never null nor unaligned, and what it lends to be written
-// overlaps nothing else. Every number may be given, so that only the batch, which has pointers with lengths, asks its caller for care.
+// SAFETY: these are the header's declarations, with a reference for each pointer to one thing or to a whole curve: it is never null nor unaligned, and what it lends to be
+// written overlaps nothing else. Every number may be given, so that only the batch, which has pointers with lengths, asks its caller for care.
 unsafe extern "C" {
     pub safe fn raddlehue_place(
         start: &Start,
@@ -56,6 +68,13 @@ unsafe extern "C" {
         elevations_e8: *mut i64,
         elevations_length: u64,
         batch: &mut Batch,
+    ) -> u32;
+    pub safe fn raddlehue_day(
+        date: &Date,
+        body: u32,
+        point: &Point,
+        elevations_e8: &mut [i64; DAY_MINUTES],
+        rise_set: &mut RiseSet,
     ) -> u32;
     pub safe fn raddlehue_middle(a_e8: i64, b_e8: i64, azimuth_e8: &mut i64) -> u32;
     pub safe fn raddlehue_refraction(

@@ -19,7 +19,8 @@
 //! - **Time** is UTC, never a local zone. UT1 minus UTC and delta-T (TT minus UT1) are the caller's to give, in tenths of a second.
 //! - **Names say their unit**, as in the C header: `_e7` and `_e8` are 10⁻⁷ and 10⁻⁸ degree, `_e10` is 10⁻¹⁰, `_tenths` are tenths of a second.
 //!
-//! No function keeps state, reads a clock or panics; each takes about 8 KiB of stack at most. Every number may be given, and what cannot be answered is a [`Refusal`].
+//! No function keeps state, reads a clock or panics; each takes about 8 KiB of stack at most, [`rise_set`] 11.5 KB more for its curve. Every number may be given, and what
+//! cannot be answered is a [`Refusal`].
 //!
 //! The package needs no `std`. The feature `alloc` adds `places`, and `std`, which is on unless turned off, that and a [`Start`] from a `SystemTime`.
 //!
@@ -38,17 +39,19 @@ mod angles;
 mod archive;
 #[cfg(feature = "std")]
 mod clock;
+mod day;
 mod places;
 mod refusal;
 mod request;
 mod sums;
 
 pub use angles::{arctangent, cosine, middle, refraction, root, sine};
+pub use day::{day, rise_set, RiseSet, DAY_MINUTES, RISE_SET_E8};
 #[cfg(feature = "alloc")]
 pub use places::places;
 pub use places::{place, places_into, shown_place, Place, Shown};
 pub use refusal::Refusal;
-pub use request::{Air, Body, Point, Start};
+pub use request::{Air, Body, Date, Point, Start};
 pub use sums::{day_count, instant, mean_sidereal, moon_sums, nutation, sun_sums, Instant, MoonSums, Nutation, SunSums};
 
 /// The version of this package, of the C header and of the archive beside them.

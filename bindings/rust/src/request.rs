@@ -74,6 +74,57 @@ impl Start {
     }
 }
 
+/// A date in UTC (no zone, Gregorian calendar), with UT1 minus UTC and delta-T (TT minus UT1) for all of it.
+#[repr(C)]
+#[derive(Clone, Copy, Debug, PartialEq, Eq, Hash)]
+pub struct Date {
+    /// Gregorian, 1900 to 2100.
+    pub year: i64,
+    /// 1 to 12.
+    pub month: i64,
+    /// From 1.
+    pub day: i64,
+    /// UT1 minus UTC in tenths of a second, -9 to 9.
+    pub ut1_tenths: i64,
+    /// Delta-T, TT minus UT1, in tenths of a second, -80,000 to 80,000.
+    pub delta_t_tenths: i64,
+}
+
+impl Date {
+    /// A date of UTC (no zone, Gregorian calendar), with UT1 minus UTC and delta-T both 0 until they are given.
+    ///
+    /// ```
+    /// use raddlehue::Date;
+    ///
+    /// let date = Date::utc(2009, 6, 21);
+    /// assert_eq!((date.year, date.day, date.delta_t_tenths), (2009, 21, 0));
+    /// ```
+    #[must_use]
+    pub const fn utc(year: i64, month: i64, day: i64) -> Date {
+        Date { year, month, day, ut1_tenths: 0, delta_t_tenths: 0 }
+    }
+
+    /// The same, with UT1 minus UTC (not UTC minus UT1) in tenths of a second, -9 to 9.
+    ///
+    /// ```
+    /// assert_eq!(raddlehue::Date::utc(2009, 6, 21).ut1_tenths(-4).ut1_tenths, -4);
+    /// ```
+    #[must_use]
+    pub const fn ut1_tenths(self, ut1_tenths: i64) -> Date {
+        Date { ut1_tenths, ..self }
+    }
+
+    /// The same, with delta-T (TT minus UT1, not UTC) in tenths of a second, -80,000 to 80,000: 65.9 s is 659.
+    ///
+    /// ```
+    /// assert_eq!(raddlehue::Date::utc(2009, 6, 21).delta_t_tenths(659).delta_t_tenths, 659);
+    /// ```
+    #[must_use]
+    pub const fn delta_t_tenths(self, delta_t_tenths: i64) -> Date {
+        Date { delta_t_tenths, ..self }
+    }
+}
+
 /// The body whose azimuth (from north over east) and elevation (from the horizon upward) are asked for.
 #[derive(Clone, Copy, Debug, PartialEq, Eq, Hash)]
 pub enum Body {

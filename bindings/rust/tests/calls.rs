@@ -175,6 +175,73 @@ fn no_offsets_no_places() {
     assert_eq!(places_into(START, Body::Sun, POINT, &[], &mut [], &mut []), Ok(0));
 }
 
+// ---- days
+
+const DATE: Date = Date::utc(2009, 6, 21).delta_t_tenths(659);
+const GREENWICH: Point = Point { longitude_e7: 0, latitude_e7: 514_769_000, height_metres: 46 };
+const TROMSO: Point = Point { longitude_e7: 189_553_000, latitude_e7: 696_492_000, height_metres: 10 };
+
+fn minutes(rise_minute: Option<u16>, set_minute: Option<u16>) -> Result<RiseSet, Refusal> {
+    Ok(RiseSet { rise_minute, set_minute })
+}
+
+// As DE431 has them.
+#[test]
+fn a_curve_is_a_batch_of_minutes() {
+    let midnight = Start::utc(2009, 6, 21, 0, 0, 0).delta_t_tenths(659);
+    let offsets: Vec<u32> = (0..1440).map(|minute| 600 * minute).collect();
+    for (body, answer) in [(Body::Sun, minutes(Some(223), Some(1221))), (Body::Moon, minutes(Some(108), Some(1172)))] {
+        let mut elevations = [-7; DAY_MINUTES];
+        assert_eq!(day(DATE, body, GREENWICH, &mut elevations), answer);
+        let places = places(midnight, body, GREENWICH, &offsets).unwrap();
+        assert!(places.iter().map(|place| place.elevation_e8).eq(elevations));
+        assert_eq!(rise_set(DATE, body, GREENWICH), answer);
+    }
+}
+
+#[test]
+fn a_day_may_lack_either_or_both() {
+    let on = |month, day| Date::utc(2026, month, day).delta_t_tenths(691);
+    assert_eq!(rise_set(on(11, 3), Body::Moon, GREENWICH), minutes(None, Some(858)));
+    assert_eq!(rise_set(on(11, 18), Body::Moon, GREENWICH), minutes(Some(806), None));
+    for (month, stays_up) in [(6, true), (12, false)] {
+        let mut elevations = [0; DAY_MINUTES];
+        assert_eq!(day(on(month, 21), Body::Sun, TROMSO, &mut elevations), minutes(None, None));
+        assert!(elevations.iter().all(|&elevation| (elevation >= RISE_SET_E8) == stays_up));
+    }
+}
+
+#[test]
+fn minute_0_looks_back_to_the_day_before() {
+    let at = Point { longitude_e7: 902_000_000, latitude_e7: 0, height_metres: 0 };
+    let on = |day| Date::utc(1900, 1, day).delta_t_tenths(-20);
+    assert_eq!(rise_set(on(2), Body::Sun, at), minutes(Some(0), Some(727)));
+    assert_eq!(rise_set(on(1), Body::Sun, at), minutes(None, Some(727)), "there is no day before");
+    assert!(rise_set(Date::utc(2100, 12, 31), Body::Moon, at).is_ok());
+}
+
+#[test]
+fn a_refused_day_keeps_the_curve() {
+    let requests = [
+        (Date { year: 1899, month: 13, ..DATE }, GREENWICH, Refusal::Year),
+        (Date { month: 0, day: 0, ..DATE }, GREENWICH, Refusal::Month),
+        (Date { day: 31, ..DATE.ut1_tenths(10) }, GREENWICH, Refusal::Day),
+        (DATE.ut1_tenths(-10).delta_t_tenths(80_001), GREENWICH, Refusal::Ut1),
+        (DATE.delta_t_tenths(80_001), Point { longitude_e7: i64::MIN, ..GREENWICH }, Refusal::DeltaT),
+        (DATE, Point { longitude_e7: -1_800_000_001, latitude_e7: i64::MAX, ..GREENWICH }, Refusal::Longitude),
+        (DATE, Point { latitude_e7: -900_000_001, height_metres: i64::MIN, ..GREENWICH }, Refusal::Latitude),
+        (DATE, Point { height_metres: -501, ..GREENWICH }, Refusal::Height),
+    ];
+    for (date, point, refusal) in requests {
+        let mut elevations = [-7; DAY_MINUTES];
+        for body in [Body::Sun, Body::Moon] {
+            assert_eq!(day(date, body, point, &mut elevations), Err(refusal));
+            assert_eq!(rise_set(date, body, point), Err(refusal));
+        }
+        assert_eq!(elevations, [-7; DAY_MINUTES]);
+    }
+}
+
 // ---- azimuths, refraction, numbers
 
 #[test]
@@ -298,7 +365,14 @@ fn constants_are_the_headers() {
         line.unwrap_or_else(|| panic!("the header has no {name}")).to_string()
     };
     assert_eq!(defined("VERSION"), format!("\"{VERSION}\""));
-    for (name, number) in [("SECOND", SECOND), ("DEGREE_E7", DEGREE_E7), ("DEGREE_E8", DEGREE_E8)] {
-        assert_eq!(defined(name), number.to_string(), "{name}");
+    for (name, number) in [
+        ("SECOND", SECOND),
+        ("DEGREE_E7", DEGREE_E7),
+        ("DEGREE_E8", DEGREE_E8),
+        ("DAY_MINUTES", DAY_MINUTES as i64),
+        ("RISE_SET_E8", RISE_SET_E8),
+    ] {
+        // A number below zero stands in brackets.
+        assert_eq!(defined(name).trim_matches(['(', ')']), number.to_string(), "{name}");
     }
 }

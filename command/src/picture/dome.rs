@@ -1,7 +1,9 @@
 //! How the sky lies on the sheet: a dome, whose upper end is the zenith and one point, so that a path over the zenith is one line.
 //!
 //! Elevation runs upward in equal steps; azimuth runs across, and narrows slowly at first, then faster towards the zenith. The side opposite to the middle is the dome's left and
-//! right edge. Sizes are in units of which the sheet's width has 1000.
+//! right edge.
+
+use crate::svg::Spot;
 
 /// The lowest elevation on the sheet, in degrees: a little below the horizon, to show where a body comes up.
 pub const LOWEST: f64 = -10.0;
@@ -17,9 +19,6 @@ pub struct Dot {
     pub right: f64,
     pub up: f64,
 }
-
-/// A point of the sheet: from its left and from its top.
-pub type Spot = (f64, f64);
 
 pub fn spot(dot: Dot) -> Spot {
     let height = dot.up / 90.0;

@@ -1,6 +1,6 @@
 //! Where a label goes: to that side of its mark where it is clearest of the paths, of the other labels and of the frame.
 
-use super::dome::Spot;
+use crate::svg::Spot;
 
 pub struct Frame {
     pub left: f64,

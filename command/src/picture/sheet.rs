@@ -1,25 +1,14 @@
-//! The sheet itself: dome, grid, paths, marks and words, in units of which the width has 1000, so that it can be read on a phone.
+//! The sheet itself: dome, grid, paths, marks and words.
 
-use super::dome::{self, meridian, spot, Dot, Spot, HORIZON, LOWEST, ZENITH};
+use super::dome::{self, meridian, spot, Dot, HORIZON, LOWEST, ZENITH};
 use super::labels::{Frame, Labels};
 use super::story::{class_of, Story};
 use super::style;
 use super::track::Track;
 use crate::format::body_name;
 use crate::sky::Body;
+use crate::svg::{self, stroke, text, Spot, FIRST_LINE, INDENT, LINE, MARGIN, TO_FOOT, WIDTH};
 use std::fmt::Write;
-
-const WIDTH: f64 = 1000.0;
-const HEIGHT: f64 = 1330.0;
-const MARGIN: f64 = 40.0;
-
-/// Lines of text under the dome: the first one's foot, from one to the next, and where they begin beside a sample of a path.
-const FIRST_LINE: f64 = 985.0;
-const LINE: f64 = 52.0;
-const INDENT: f64 = 150.0;
-
-/// From the middle of a letter's height to the foot of the line.
-const TO_FOOT: f64 = 13.0;
 
 const COMPASS: [&str; 8] = ["N", "NE", "E", "SE", "S", "SW", "W", "NW"];
 const ELEVATIONS: [f64; 3] = [0.0, 30.0, 60.0];
@@ -28,38 +17,10 @@ const ELEVATIONS: [f64; 3] = [0.0, 30.0, 60.0];
 const NEAR: f64 = 4.0;
 
 pub fn drawn(story: &Story, centre: f64, tracks: &[Track; 2]) -> String {
-    let mut svg = format!(
-        "<svg xmlns=\"http://www.w3.org/2000/svg\" viewBox=\"0 0 {WIDTH} {HEIGHT}\" lang=\"en\" role=\"img\" \
-         aria-labelledby=\"raddlehue-title raddlehue-desc\">\n\
-         <title id=\"raddlehue-title\">{}, {}</title>\n<desc id=\"raddlehue-desc\">{}</desc>\n{}\
-         <rect class=\"page\" width=\"{WIDTH}\" height=\"{HEIGHT}\"/>\n\
-         <text class=\"title\" x=\"{MARGIN}\" y=\"60\">{}</text>\n<text x=\"{MARGIN}\" y=\"112\">{}</text>\n",
-        story.title,
-        story.place,
-        story.description,
-        style::sheet(),
-        story.title,
-        story.place
-    );
-    svg += &grid(centre);
-    for track in tracks {
-        svg += &path(track);
-    }
-    svg += &names(tracks);
-    svg += &legend(story, tracks);
-    svg + "</svg>\n"
-}
-
-fn text(class: &str, (x, y): Spot, words: &str) -> String {
-    format!("<text class=\"{class}\" x=\"{x:.1}\" y=\"{:.1}\">{words}</text>\n", y + TO_FOOT)
-}
-
-fn stroke(spots: impl IntoIterator<Item = Spot>) -> String {
-    let mut text = String::new();
-    for (x, y) in spots {
-        let _ = write!(text, "{}{x:.1} {y:.1}", if text.is_empty() { 'M' } else { 'L' });
-    }
-    text
+    let paths: String = tracks.iter().map(path).collect();
+    let picture = grid(centre) + &paths + &names(tracks) + &legend(story, tracks);
+    let lines = story.bodies.as_flattened().len() + story.notes.len();
+    svg::page(&story.heading, lines, &style::of_dome(), &picture)
 }
 
 // ---- the dome
@@ -175,20 +136,20 @@ fn highest_first(tracks: &[Track; 2]) -> Vec<(usize, &Track, Dot)> {
 // ---- words under the dome
 
 fn legend(story: &Story, tracks: &[Track; 2]) -> String {
-    let mut svg = String::new();
+    let mut legend = String::new();
     let mut foot = FIRST_LINE;
     for (track, lines) in tracks.iter().zip(&story.bodies) {
         let y = foot - TO_FOOT;
-        let _ = writeln!(svg, "<path class=\"{} path\" d=\"M{MARGIN} {y}h90\"/>", class_of(track.body));
-        svg += &mark(track.body, (MARGIN + 45.0, y));
+        let _ = writeln!(legend, "<path class=\"{} path\" d=\"M{MARGIN} {y}h90\"/>", class_of(track.body));
+        legend += &mark(track.body, (MARGIN + 45.0, y));
         for line in lines {
-            let _ = writeln!(svg, "<text x=\"{INDENT}\" y=\"{foot}\">{line}</text>");
+            legend += &svg::line(INDENT, foot, line);
             foot += LINE;
         }
     }
     for note in &story.notes {
-        let _ = writeln!(svg, "<text x=\"{MARGIN}\" y=\"{foot}\">{note}</text>");
+        legend += &svg::line(MARGIN, foot, note);
         foot += LINE;
     }
-    svg
+    legend
 }

@@ -1,7 +1,9 @@
-// A start and a point as C hands them over: their numbers in order.
+// A start, a date and a point as C hands them over: their numbers in order.
+use day::date::Date;
 use request::start::Start;
 use sky_vectors::station::Point;
 ghost use mathlib.Core.Path.{_≡_};
+ghost use Rattle.day.specs.Date.{date-from};
 ghost use Rattle.request.specs.Request.{start-from};
 ghost use Rattle.boundary.specs.Given.{point-from};
 
@@ -18,6 +20,18 @@ pub fn start_of(numbers: &[i64; 9]) -> Start
         fraction: numbers[6],
         ut1: numbers[7],
         delta_t: numbers[8],
+    }
+}
+
+pub fn date_of(numbers: &[i64; 5]) -> Date
+    ensures { λ r. ⌜ r ≡ date-from (now (numbers .entry)) ⌝ }
+{
+    Date {
+        year: numbers[0],
+        month: numbers[1],
+        day: numbers[2],
+        ut1: numbers[3],
+        delta_t: numbers[4],
     }
 }
 

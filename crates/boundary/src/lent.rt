@@ -1,6 +1,11 @@
 // What is written behind a reference to an array, whole: the logic is not told how long the list behind such a reference is.
+use day::answer::RiseSet;
+use day::crossing::Crossing;
 ghost use mathlib.Core.List.{[], _∷_};
 ghost use mathlib.Core.Path.{_≡_};
+ghost use Rattle.day.specs.Answer.{rise-set-numbers};
+ghost use Rattle.day.specs.Crossing.{crossing-numbers};
+ghost use Rattle.boundary.specs.Lent.{rise-set-values};
 
 pub fn put_pair(pair: &mut [i64; 2], first: i64, second: i64)
     ensures { λ _. ⌜ now (pair .exit) ≡ first ∷ second ∷ [] ⌝ }
@@ -24,4 +29,38 @@ pub fn put_doubles(triple: &mut [f64; 3], first: f64, second: f64, third: f64)
     ensures { λ _. ⌜ now (triple .exit) ≡ first ∷ second ∷ third ∷ [] ⌝ }
 {
     *triple = [first, second, third];
+}
+
+// 1 where there is a minute, and 0 where there is none.
+fn has_minute(crossing: Crossing) -> u32
+    ensures { λ r. ⌜ r ≡ crossing-numbers crossing .has ⌝ }
+{
+    match crossing {
+        Crossing::Minute(_) => 1,
+        Crossing::None => 0,
+    }
+}
+
+// The minute, or 0 where there is none.
+fn minute_of(crossing: Crossing) -> u32
+    ensures { λ r. ⌜ r ≡ crossing-numbers crossing .minute ⌝ }
+{
+    match crossing {
+        Crossing::Minute(minute) => minute,
+        Crossing::None => 0,
+    }
+}
+
+// A flag and a minute for the rise, then for the set.
+pub fn put_rise_set(lent: &mut [u32; 4], seen: RiseSet)
+    ensures { λ _. ⌜ now (lent .exit) ≡ rise-set-values (rise-set-numbers seen) ⌝ }
+{
+    let rise = seen.rise;
+    let set = seen.set;
+    *lent = [
+        has_minute(rise),
+        minute_of(rise),
+        has_minute(set),
+        minute_of(set),
+    ];
 }

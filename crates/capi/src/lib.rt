@@ -5,4 +5,5 @@ pub mod instants;
 pub mod leaves;
 pub mod middle;
 pub mod place;
+pub mod rise_set;
 pub mod samples;

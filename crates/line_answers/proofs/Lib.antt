@@ -1,3 +1,4 @@
 pub mod PrintedLaws
 pub mod SheetLaws
+pub mod BodyLineLaws
 pub mod PlacesLineLaws

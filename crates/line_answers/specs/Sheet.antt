@@ -6,7 +6,6 @@ use lib.IntN.{ℤ, pos}
 use Rattle.sum_rules.specs.Moon.{argument}
 use Rattle.sum_rules.specs.MoonTerms.{L′}
 use Rattle.sum_rules.specs.Sidereal.{mean}
-use Rattle.sum_rules.specs.Table.{column}
 use Rattle.sum_rules.specs.declared.instant.Instant.{Instant}
 use Rattle.text.specs.Line.{sheet-numbers}
 use Rattle.text.specs.RoundTrip.{printed}

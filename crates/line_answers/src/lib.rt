@@ -1,4 +1,5 @@
-// The answer to one line, and what is printed for it: the argument sheet's, and that of `places`.
+// The answer to one line, and what is printed for it: the argument sheet's, and that of `places`; what lines with a body have in common.
+pub mod body_line;
 pub mod places_line;
-mod refused;
+pub mod refused;
 pub mod sheet;

@@ -1,4 +1,8 @@
 // One line of the program `places`: its answer, and the answer as it is printed.
+use super::body_line::BodyLine;
+use super::body_line::body_line;
+use super::body_line::body_numbers;
+use super::body_line::point_from;
 use super::refused::refusal_text;
 use super::sheet::start_from;
 use calendar::refusal::Refusal;
@@ -7,60 +11,39 @@ use sky::answer::PlaceAnswer;
 use sky::answer::place;
 use sky_vectors::geocentric::Body;
 use sky_vectors::place::Place;
-use sky_vectors::station::Point;
 use text::decimal::Text;
 use text::decimal::appended_byte;
 use text::decimal::appended_decimals;
 use text::decimal::empty;
-use text::line::begins;
-use text::line::line_numbers;
-use text::line::short_numbers;
 ghost use mathlib.Core.Path.{_≡_};
 ghost use Prim.Native.Nat.{_≤_};
 ghost use lib.ListN.{length, drop};
 ghost use Rattle.text.specs.Decimal.{text-room, written};
 ghost use Rattle.calendar.specs.Refusal.{OneAnswer};
 ghost use Rattle.sky.specs.Answer.{place-answer};
-ghost use Rattle.line_answers.specs.PlacesLine.{point-from, body-answer, places-answer, place-line, places-line};
-
-// The numbers behind the sheet's nine.
-fn point_from(numbers: [i64; 12]) -> Point
-    ensures { λ r. ⌜ r ≡ point-from numbers ⌝ }
-{
-    Point {
-        longitude: numbers[9],
-        latitude: numbers[10],
-        height: numbers[11],
-    }
-}
+ghost use Rattle.line_answers.specs.PlacesLine.{body-answer, places-answer, place-line, places-line};
 
 // The place of a body by the numbers from here to the end of the line.
 fn body_answer(body: Body, line: &[u8], start: usize) -> PlaceAnswer
     requires { ⌜ start ≤ length (now line) ⌝ }
     ensures { λ r. ⌜ OneAnswer place-answer (body-answer body (drop start (now (line .entry)))) r ⌝ }
 {
-    if !short_numbers(line, start, 9) {
-        return PlaceAnswer::Refused(Refusal::NotALine);
-    }
-    let numbers = line_numbers(line, start, 12, 10);
+    let numbers = body_numbers(line, start, 9, 12);
     if !numbers.read {
         return PlaceAnswer::Refused(Refusal::NotALine);
     }
     let values = numbers.values;
-    place(start_from(values), body, point_from(values), Air::None)
+    place(start_from(values), body, point_from(values, 9), Air::None)
 }
 
 // The answer to a line, without its newline.
 pub fn places_answer(line: &[u8]) -> PlaceAnswer
     ensures { λ r. ⌜ OneAnswer place-answer (places-answer (now (line .entry))) r ⌝ }
 {
-    if begins(b"sun ", line) {
-        return body_answer(Body::Sun, line, 4);
+    match body_line(line) {
+        BodyLine::Of(body, start) => body_answer(body, line, start),
+        BodyLine::Other => PlaceAnswer::Refused(Refusal::NotALine),
     }
-    if begins(b"moon ", line) {
-        return body_answer(Body::Moon, line, 5);
-    }
-    PlaceAnswer::Refused(Refusal::NotALine)
 }
 
 fn place_text(place: Place) -> Text

@@ -14,7 +14,10 @@ use lib.ListN.{length, length-append}
 use lib.Seq.{length-take-le, take-all, take-append-le, take-at}
 use borrow.Author.Tests.{eq-eqb, leb-false, leb-true, ne-eqb}
 use Rattle.text.proofs.LineLaws.{too-long-line}
-use Rattle.line_answers.proofs.PlacesLineLaws.{too-long}
+use Rattle.day_lines.proofs.DaysLineLaws.{too-long-days}
+use Rattle.day_lines.specs.DaysLine.{days-line, rise-set-line}
+use Rattle.day_lines.specs.DaysLine as Days
+use Rattle.line_answers.proofs.PlacesLineLaws.{too-long-places}
 use Rattle.line_answers.specs.PlacesLine.{no-request, place-line, places-line}
 use Rattle.line_answers.specs.Printed.{answer-line, newline}
 use Rattle.line_answers.specs.Sheet.{arguments-line, row-from, sheet-line, sheet-row}
@@ -77,13 +80,18 @@ long-sheet line h = ap (λ (numbers : Option (List ℤ)). answer-line arguments-
 
 long-places : (line : List ℕ) → line-room ≤ length line → places-line line ≡ answer-line place-line no-request
 unfolding places-line
-long-places line h = ap (answer-line place-line) (too-long line h)
+long-places line h = ap (answer-line place-line) (too-long-places line h)
+
+long-days : (line : List ℕ) → line-room ≤ length line → days-line line ≡ answer-line rise-set-line Days.no-request
+unfolding days-line
+long-days line h = ap (answer-line rise-set-line) (too-long-days line h)
 
 module _ (line : List ℕ) (long : line-room < length line) where
   kept-long : (form : Form) → line-answer form (kept line) ≡ line-answer form line
   unfolding line-answer
   kept-long Forms.Sheet = long-sheet (kept line) (omega (arith, kept-length line long)) ∙ sym (long-sheet line (omega arith))
   kept-long Forms.Places = long-places (kept line) (omega (arith, kept-length line long)) ∙ sym (long-places line (omega arith))
+  kept-long Forms.Days = long-days (kept line) (omega (arith, kept-length line long)) ∙ sym (long-days line (omega arith))
 
 kept-line : (form : Form) (line : List ℕ) → line-answer form (kept line) ≡ line-answer form line
 kept-line form line = by-length line (λ short. ap (line-answer form) (take-all line-room line short)) (λ long. kept-long line long form)

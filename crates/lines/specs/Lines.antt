@@ -1,4 +1,4 @@
--- The lines of an input (01, "The argument sheet"), and what is printed for them, by the sheet or by `places`.
+-- The lines of an input (01, "The argument sheet"), and what is printed for them, by the sheet, by `places` or by `days`.
 use mathlib.Core.Bool.{cond}
 use mathlib.Core.List.{List, [], _∷_, _++_}
 use mathlib.Core.Path.{_≡_}
@@ -7,7 +7,9 @@ use lib.Dec.{eqb}
 use lib.ListN.{length, take}
 use Rattle.text.specs.Cases.{bytes}
 use Rattle.text.specs.Decimal.{text-room}
-use Rattle.line_answers.specs.PlacesLine.{longest-request, places-line}
+use Rattle.day_lines.specs.DaysLine.{days-line}
+use Rattle.line_answers.specs.BodyLine.{longest-request}
+use Rattle.line_answers.specs.PlacesLine.{places-line}
 use Rattle.line_answers.specs.Printed.{newline}
 use Rattle.line_answers.specs.Sheet.{sheet-line}
 use Rattle.lines.specs.declared.answers.Turn.{Turn}
@@ -15,14 +17,16 @@ use Rattle.lines.specs.declared.line.Form.{Form}
 use Rattle.lines.specs.declared.line.Form.the-variants as Forms
 use Rattle.lines.specs.declared.line.Line.{Line}
 
--- `places` has no header
+-- `places` and `days` have no header
 unfoldable pub header : Form → List ℕ
 header Forms.Sheet = bytes "TT LPRIME GMST\n"
 header Forms.Places = []
+header Forms.Days = []
 
 unfoldable pub line-answer : Form → List ℕ → List ℕ
 line-answer Forms.Sheet line = sheet-line line
 line-answer Forms.Places line = places-line line
+line-answer Forms.Days line = days-line line
 
 -- a line ends at a newline: what is printed at a byte, and the line after it
 unfoldable pub printed-at : Form → List ℕ → ℕ → List ℕ

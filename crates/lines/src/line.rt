@@ -1,4 +1,5 @@
 // A line that is being read, and the program that reads it.
+use day_lines::days_line;
 use line_answers::places_line::places_line;
 use line_answers::sheet::sheet_line;
 use text::decimal::Text;
@@ -14,6 +15,7 @@ ghost use Rattle.lines.specs.Lines.{header, held, kept, line-answer, lin
 pub enum Form {
     Sheet,
     Places,
+    Days,
 }
 
 // The bytes of a line that are held, enough to refuse a longer one; `line-room` of the specs.
@@ -55,6 +57,7 @@ fn line_answer(form: Form, line: &[u8]) -> Text
     match form {
         Form::Sheet => sheet_line(line),
         Form::Places => places_line(line),
+        Form::Days => days_line(line),
     }
 }
 
@@ -75,5 +78,6 @@ pub fn header(form: Form) -> Text
     match form {
         Form::Sheet => appended_bytes(empty(), b"TT LPRIME GMST\n"),
         Form::Places => empty(),
+        Form::Days => empty(),
     }
 }

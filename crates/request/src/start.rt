@@ -35,7 +35,7 @@ const UT1: i64 = (9 * SECOND / 10) as i64;
 
 const DELTA_T: i64 = (8_000 * SECOND) as i64;
 
-fn date_of(start: Start) -> DayCount
+pub fn date_of(start: Start) -> DayCount
     ensures { λ r. ⌜ OneAnswer count-answer (date start) r ⌝ }
 {
     day_count(start.year, start.month, start.day)
@@ -52,7 +52,7 @@ pub fn date_verdict(date: DayCount) -> Verdict
 }
 
 // Days from 2000-01-01, or 0 where the date is refused.
-fn days_in(date: DayCount) -> i64
+pub fn days_in(date: DayCount) -> i64
     ensures { λ r. ⌜ r ≡ count-answer date .days ⌝ }
 {
     match date {

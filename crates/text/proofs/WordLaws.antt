@@ -145,12 +145,12 @@ numbers-most (word ∷ rest) e =
       numbers-most rest (second-of (is-number 10 word) (all (is-number 10) rest) e),
     )
 
-pub long-line : (s : List ℕ) → 143 < length s → line-numbers 12 10 s ≡ none
-long-line s h = by-test (all (is-number 10) (words s)) refl
+pub long-line : (count : ℕ) → count ≤ 12 → (s : List ℕ) → 143 < length s → line-numbers count 10 s ≡ none
+long-line count few s h = by-test (all (is-number 10) (words s)) refl
   where
-    by-test : (p : Bool) → all (is-number 10) (words s) ≡ p → line-numbers 12 10 s ≡ none
-    by-test true e = other-count 12 10 s (λ n. omega (arith, numbers-most (words s) e, words-bytes s, n))
-    by-test false e = other-word 12 10 s e
+    by-test : (p : Bool) → all (is-number 10) (words s) ≡ p → line-numbers count 10 s ≡ none
+    by-test true e = other-count count 10 s (λ n. omega (arith, numbers-most (words s) e, words-bytes s, n))
+    by-test false e = other-word count 10 s e
 
 -- what a call of `word_length` found at a place within the line
 module _ (line : List ℕ) (at : ℕ) (h : at ≤ length line) (n : ℕ) (e : n ≡ word-length (drop at line)) where

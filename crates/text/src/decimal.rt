@@ -73,7 +73,7 @@ pub fn appended_number(text: Text, value: i64) -> Text
 }
 
 // So many digits, the last ones of a number.
-fn appended_padded(text: Text, count: usize, size: u64) -> Text
+pub fn appended_padded(text: Text, count: usize, size: u64) -> Text
     requires { ⌜ text .length + count ≤ text-room ⌝ }
     ensures { λ r. ⌜ Appended text (padded count size) r ⌝ }
 {

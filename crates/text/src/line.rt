@@ -120,7 +120,7 @@ pub fn begins(first: &[u8], line: &[u8]) -> bool
 }
 
 // What is handed back for any other line.
-fn other() -> Numbers
+pub fn no_numbers() -> Numbers
     ensures { λ r. ⌜ r ≡ answer none ⌝ }
 {
     Numbers {
@@ -140,18 +140,18 @@ pub fn line_numbers(line: &[u8], start: usize, count: usize, most: usize) -> Num
     while found < count {
         // past the end there is no word, at the end an empty one
         if at > line.len() {
-            return other();
+            return no_numbers();
         }
         let end = at + word_length(&line[at..]);
         if !is_number(&line[at..end], most) {
-            return other();
+            return no_numbers();
         }
         values[found] = value(&line[at..end]);
         at = end + 1;
         found += 1;
     }
     if at <= line.len() {
-        return other();
+        return no_numbers();
     }
     Numbers { read: true, values }
 }
@@ -182,7 +182,7 @@ pub fn sheet_numbers(line: &[u8]) -> Numbers
     ensures { λ r. ⌜ r ≡ answer (sheet-numbers (now (line .entry))) ⌝ }
 {
     if line.len() > 80 {
-        return other();
+        return no_numbers();
     }
     line_numbers(line, 0, 9, 9)
 }

@@ -1,75 +1,49 @@
 -- `line_answers::places_line::places_answer` meets its contract.
-use mathlib.Core.Bool.{false, true}
-use mathlib.Core.Path.{_∙_, _≡_, sym}
-use Rattle.text.proofs.LineLaws.{begins-within}
-use Rattle.text.specs.Cases.{bytes}
-use Rattle.text.specs.Line.{begins}
-use Rattle.sky.proofs.AnswerLaws.{one-place}
-use Rattle.line_answers.proofs.PlacesLineLaws.{moon-line, other-line, sun-line}
+use mathlib.Core.List.{List}
+use mathlib.Core.Path.{_∙_, _≡_, ap, sym}
+use Prim.Native.Nat.{ℕ}
 use borrow.Author.Needs.{needs}
+use Rattle.sky.proofs.AnswerLaws.{one-place}
+use Rattle.line_answers.specs.BodyLine.{body-line, by-body}
+use Rattle.line_answers.specs.PlacesLine.{body-answer, no-request, places-answer}
+use Rattle.line_answers.specs.declared.body_line.BodyLine.{BodyLine}
+use Rattle.line_answers.specs.declared.body_line.BodyLine.the-variants.{Of}
+use Rattle.line_answers.proofs.BodyLineLaws.{start-within}
 use Rattle.line_answers.proofs.places_line.places_answer.Statement.{statement}
 use Rattle.line_answers.proofs.places_line.places_answer.Tie as tie
 
-slice-aggregate-begins : tie.Need-slice-aggregate-begins
-slice-aggregate-begins c = search needs
+body-line-requires : tie.Need-body-line-requires
+body-line-requires c κs = search needs
 
-begins-requires : tie.Need-begins-requires
-begins-requires c κs = search needs
+enum-known-body : tie.Need-enum-known-body
+enum-known-body c = search needs
 
-is-sun : (c : tie.Then1) → begins (bytes "sun ") (c .before .before .before .before .args .line .now) ≡ true
-unfolding bytes
-is-sun c = sym (c .before .begins .ensures) ∙ c .if1 .taken
+-- a body's line
+module _ (c : tie.After-known-told) where
+  abbrev line : List ℕ
+  line = c .before .before .before .before .before .args .line .now
 
-no-sun : (c : tie.Else1) → begins (bytes "sun ") (c .before .before .before .before .args .line .now) ≡ false
-unfolding bytes
-no-sun c = sym (c .before .begins .ensures) ∙ c .if1 .left
-
-is-moon : (c : tie.Then2) → begins (bytes "moon ") (c .before .before .before .before .before .before .before .args .line .now) ≡ true
-unfolding bytes
-is-moon c = sym (c .before .begins2 .ensures) ∙ c .if2 .taken
-
-no-moon : (c : tie.Else2) → begins (bytes "moon ") (c .before .before .before .before .before .before .before .args .line .now) ≡ false
-unfolding bytes
-no-moon c = sym (c .before .begins2 .ensures) ∙ c .if2 .left
+  is-of : body-line line ≡ Of (c .before .body .given .0 .0) (c .before .body .given .0 .1 .0)
+  is-of = sym (c .before .before .before .body-line .ensures) ∙ c .before .body .given .1
 
 body-answer-requires : tie.Need-body-answer-requires
-unfolding bytes
-body-answer-requires c κs = begins-within (bytes "sun ") (c .before .before .before .before .args .line .now) (is-sun c)
+body-answer-requires c κs = start-within (line c) (is-of c)
+
+enum-told : tie.Need-enum-told
+enum-told c = search needs
 
 returns : tie.Need-returns
-returns c = one-place (c .body-answer .ensures .equal ∙ sun-line (c .before .before .before .before .before .args .line .now) (is-sun (c .before)))
-
-slice-aggregate-begins-2 : tie.Need-slice-aggregate-begins-2
-slice-aggregate-begins-2 c = search needs
-
-begins-requires-2 : tie.Need-begins-requires-2
-begins-requires-2 c κs = search needs
-
-body-answer-requires-2 : tie.Need-body-answer-requires-2
-unfolding bytes
-body-answer-requires-2 c κs = begins-within (bytes "moon ") (c .before .before .before .before .before .before .before .args .line .now) (is-moon c)
+unfolding places-answer
+returns c =
+    let k = c .before in
+    one-place (c .body-answer .ensures .equal ∙ sym (ap (λ (of : BodyLine). by-body body-answer no-request of (line k)) (is-of k)))
 
 returns-2 : tie.Need-returns-2
+unfolding places-answer
 returns-2 c =
-    let k = c .before .before .before .before in
-    let line = k .before .before .before .before .args .line .now in
-    one-place (c .body-answer2 .ensures .equal ∙ moon-line line (no-sun k) (is-moon (c .before)))
-
-returns-3 : tie.Need-returns-3
-returns-3 c =
-    let k = c .before .before .before in
-    one-place (other-line (k .before .before .before .before .args .line .now) (no-sun k) (no-moon c))
+    let line = c .before .before .before .before .args .line .now in
+    let is-other = sym (c .before .before .body-line .ensures) ∙ c .enum-told .given .1 in
+    one-place (sym (ap (λ (of : BodyLine). by-body body-answer no-request of line) is-other))
 
 pub places-answer-spec : {M : Type 1} → statement M
-places-answer-spec =
-    tie.close
-    (tie.spec
-    slice-aggregate-begins
-    begins-requires
-    body-answer-requires
-    returns
-    slice-aggregate-begins-2
-    begins-requires-2
-    body-answer-requires-2
-    returns-2
-    returns-3)
+places-answer-spec = tie.close (tie.spec body-line-requires enum-known-body body-answer-requires enum-told returns returns-2)

@@ -1,8 +1,8 @@
 -- `line_answers::refused::refusal_text` meets its contract.
 use mathlib.Core.Path.{_∙_, ap}
-use Prim.Native.Nat.{_+_, _≤_}
+use Prim.Native.Nat.{_≤_}
 use native.Mathlib.Omega.{arith}
-use Rattle.numbers.proofs.Machine.{Mirror, from-nat}
+use Rattle.numbers.proofs.Machine.{from-nat}
 use Rattle.text.proofs.DecimalLaws.{appended-length, appended-twice}
 use Rattle.text.specs.Cases.{bytes}
 use Rattle.text.specs.Decimal.{decimal}

@@ -1,10 +1,10 @@
 -- `line_answers::sheet::arguments_text` meets its contract.
-use mathlib.Core.Path.{_∙_, _≡_}
-use Prim.Native.Nat.{_+_, _≤_}
+use mathlib.Core.Path.{_∙_}
+use Prim.Native.Nat.{_≤_}
 use native.Mathlib.Omega.{arith}
 use mir.Syntax.{w64}
 use mir.Val.{SFits}
-use Rattle.numbers.proofs.Machine.{Mirror, any}
+use Rattle.numbers.proofs.Machine.{any}
 use Rattle.text.proofs.DecimalLaws.{appended-twice}
 use Rattle.text.specs.Decimal.{decimal}
 use Rattle.line_answers.proofs.PrintedLaws.{field, field-room, from-empty, none-used, number-room, whole-short}

@@ -32,6 +32,12 @@ enum-told-2 c = search needs
 empty-requires-2 : tie.Need-empty-requires-2
 empty-requires-2 c κs = search needs
 
+enum-told-3 : tie.Need-enum-told-3
+enum-told-3 c = search needs
+
+empty-requires-3 : tie.Need-empty-requires-3
+empty-requires-3 c κs = search needs
+
 returns : tie.Need-returns
 unfolding header bytes
 returns c =
@@ -46,6 +52,12 @@ returns-2 c =
     let none : c .empty2 .result .length ≡ 0 = ap (λ (t : Text). t .length) (c .empty2 .ensures) in
     (omega (arith, none), rw (c .before .enum-told2 .given .1) (ap written (c .empty2 .ensures)))
 
+returns-3 : tie.Need-returns-3
+unfolding header
+returns-3 c =
+    let none : c .empty3 .result .length ≡ 0 = ap (λ (t : Text). t .length) (c .empty3 .ensures) in
+    (omega (arith, none), rw (c .before .enum-told3 .given .1) (ap written (c .empty3 .ensures)))
+
 pub header-spec : {M : Type 1} → statement M
 header-spec =
     tie.close
@@ -56,5 +68,8 @@ header-spec =
     appended-bytes-requires
     enum-told-2
     empty-requires-2
+    enum-told-3
+    empty-requires-3
     returns
-    returns-2)
+    returns-2
+    returns-3)

@@ -57,11 +57,11 @@ word-tested c = c .is-number .ensures ∙ ap (is-number (most (c .before .before
 loop-holds : tie.Need-loop-holds Inv-loop μ-loop
 loop-holds c = begun (c .before .args .line .now) (c .before .args .start) (c .before .args .count) (c .before .args .most) (c .before .pre .0)
 
-other-requires : tie.Need-other-requires Inv-loop μ-loop
-other-requires c κs = search needs
+no-numbers-requires : tie.Need-no-numbers-requires Inv-loop μ-loop
+no-numbers-requires c κs = search needs
 
 returns : tie.Need-returns Inv-loop μ-loop
-returns c = c .other .ensures ∙ ap answer (too-few (c .before .before .before .loop .inv) (c .before .if1 .taken) (c .before .before .loop-test .taken))
+returns c = c .no-numbers .ensures ∙ ap answer (too-few (c .before .before .before .loop .inv) (c .before .if1 .taken) (c .before .before .loop-test .taken))
 
 sub-word-length : tie.Need-sub-word-length Inv-loop μ-loop
 sub-word-length c = search needs
@@ -90,13 +90,13 @@ part-is-number-end c = ends c
 is-number-requires : tie.Need-is-number-requires Inv-loop μ-loop
 is-number-requires c κs = search needs
 
-other-requires-2 : tie.Need-other-requires-2 Inv-loop μ-loop
-other-requires-2 c κs = search needs
+no-numbers-requires-2 : tie.Need-no-numbers-requires-2 Inv-loop μ-loop
+no-numbers-requires-2 c κs = search needs
 
 returns-2 : tie.Need-returns-2 Inv-loop μ-loop
 returns-2 c =
     let w = c .before .before .before .before in
-    c .other2 .ensures
+    c .no-numbers2 .ensures
     ∙ ap answer (no-number (loop-of w .loop .inv) (w .before .before .if1 .left) (sym (word-tested (c .before .before)) ∙ not-true (c .before .before .is-number .result) (c .before .if2 .taken)))
 
 sub-value : tie.Need-sub-value Inv-loop μ-loop
@@ -141,11 +141,11 @@ loop-again c =
     (one-more (l .loop .inv) (w .before .before .if1 .left) (sym (word-tested t) ∙ not-false (t .is-number .result) (c .before .before .if2 .left)) (w .before .before .before .loop-test .taken)
     (l .before .before .pre .1 .0) (toZ w64 (ofZ w64 (c .value .result))) (passed (c .value .ok) (c .value .ensures ∙ ap value (word-is w))))
 
-other-requires-3 : tie.Need-other-requires-3 Inv-loop μ-loop
-other-requires-3 c κs = search needs
+no-numbers-requires-3 : tie.Need-no-numbers-requires-3 Inv-loop μ-loop
+no-numbers-requires-3 c κs = search needs
 
 returns-3 : tie.Need-returns-3 Inv-loop μ-loop
-returns-3 c = c .other3 .ensures ∙ ap answer (too-many (c .before .before .before .loop .inv) (c .before .if3 .taken) (c .before .before .loop-test .left))
+returns-3 c = c .no-numbers3 .ensures ∙ ap answer (too-many (c .before .before .before .loop .inv) (c .before .if3 .taken) (c .before .before .loop-test .left))
 
 returns-4 : tie.Need-returns-4 Inv-loop μ-loop
 returns-4 c = all-read (c .before .before .loop .inv) (c .if3 .left) (c .before .loop-test .left)
@@ -157,7 +157,7 @@ line-numbers-spec =
     Inv-loop
     μ-loop
     loop-holds
-    other-requires
+    no-numbers-requires
     returns
     sub-word-length
     part-word-length-start
@@ -168,7 +168,7 @@ line-numbers-spec =
     part-is-number-start
     part-is-number-end
     is-number-requires
-    other-requires-2
+    no-numbers-requires-2
     returns-2
     sub-value
     part-value-start
@@ -180,6 +180,6 @@ line-numbers-spec =
     add-found
     loop-less
     loop-again
-    other-requires-3
+    no-numbers-requires-3
     returns-3
     returns-4)

@@ -1,0 +1,60 @@
+//! What the pictures share: a page in units of which the width has 1000, so that it can be read on a phone, its heading, and the lines of words under it.
+
+pub mod style;
+
+use std::fmt::Write;
+
+pub const WIDTH: f64 = 1000.0;
+pub const MARGIN: f64 = 40.0;
+
+/// Lines of text under the picture: the first one's foot, from one to the next, from the last to the page's end, and where they begin beside a sample.
+pub const FIRST_LINE: f64 = 985.0;
+pub const LINE: f64 = 52.0;
+pub const LAST_LINE: f64 = 33.0;
+pub const INDENT: f64 = 150.0;
+
+/// From the middle of a letter's height to the foot of the line.
+pub const TO_FOOT: f64 = 13.0;
+
+/// A point of the sheet: from its left and from its top.
+pub type Spot = (f64, f64);
+
+/// What a picture says of itself: two lines above it, and a description for those who cannot see it.
+pub struct Heading {
+    pub title: String,
+    pub place: String,
+    pub description: String,
+}
+
+/// The whole page, with so many lines of text under the picture.
+pub fn page(heading: &Heading, lines: usize, style: &str, picture: &str) -> String {
+    let Heading { title, place, description } = heading;
+    let height = FIRST_LINE + LINE * (lines as f64 - 1.0) + LAST_LINE;
+    format!(
+        "<svg xmlns=\"http://www.w3.org/2000/svg\" viewBox=\"0 0 {WIDTH} {height}\" lang=\"en\" role=\"img\" \
+         aria-labelledby=\"raddlehue-title raddlehue-desc\">\n\
+         <title id=\"raddlehue-title\">{title}, {place}</title>\n<desc id=\"raddlehue-desc\">{description}</desc>\n{style}\
+         <rect class=\"page\" width=\"{WIDTH}\" height=\"{height}\"/>\n\
+         <text class=\"title\" x=\"{MARGIN}\" y=\"60\">{title}</text>\n<text x=\"{MARGIN}\" y=\"112\">{place}</text>\n\
+         {picture}</svg>\n"
+    )
+}
+
+/// Words whose middle is at that height.
+pub fn text(class: &str, (x, y): Spot, words: &str) -> String {
+    format!("<text class=\"{class}\" x=\"{x:.1}\" y=\"{:.1}\">{words}</text>\n", y + TO_FOOT)
+}
+
+/// A line of text under the picture, beginning at `x`.
+pub fn line(x: f64, foot: f64, words: &str) -> String {
+    format!("<text x=\"{x}\" y=\"{foot}\">{words}</text>\n")
+}
+
+/// A line through points, as a path has it.
+pub fn stroke(spots: impl IntoIterator<Item = Spot>) -> String {
+    let mut text = String::new();
+    for (x, y) in spots {
+        let _ = write!(text, "{}{x:.1} {y:.1}", if text.is_empty() { 'M' } else { 'L' });
+    }
+    text
+}

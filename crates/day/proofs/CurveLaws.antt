@@ -1,0 +1,42 @@
+-- A list of what a function gives for each number below n: its length, its entries, and how an array is filled with it from the front.
+use mathlib.Core.List.{List, [], _++_, _∷_}
+use mathlib.Core.Path.{_∙_, _≡_, refl}
+use Prim.Native.Nat.{_+_, _<_, _^_, suc, zero, ℕ}
+use native.Mathlib.Decide.{decLt}
+use native.Mathlib.Numerals.{add-one}
+use native.Mathlib.Omega.{arith}
+use lib.IntN.{pos, ℤ}
+use lib.ListN.{List·getD-append, length, length-append, set, take}
+use lib.Seq.{getD-at, take-suc-set}
+use lib.Signed.{mag}
+use mir.Syntax.{w64}
+use mir.Val.{ofZ, toZ}
+use mir.ValLaws.{toZ-ofZ}
+use Rattle.day.specs.Curve.{each-below}
+use Rattle.day.specs.Worked.{entry}
+
+module _ (f : ℕ → ℤ) where
+  pub below-length : (n : ℕ) → length (each-below f n) ≡ n
+  unfolding each-below
+  below-length zero = refl
+  below-length (suc n) = simp length-append (omega (arith, below-length n))
+
+  pub below-entry : (n m : ℕ) → m < n → entry (each-below f n) m ≡ f m
+  unfolding each-below
+  below-entry zero m h = absurd (omega arith)
+  below-entry (suc n) m h = go (decLt m n) (below-entry n m)
+    where
+      go : Dec (m < n) → (m < n → entry (each-below f n) m ≡ f m) → entry (each-below f n ++ (f n ∷ [])) m ≡ f m
+      go (yes l) earlier = List·getD-append (each-below f n) (f n ∷ []) (pos 0) m (rw (below-length n) l) ∙ earlier l
+      go (no l) earlier = let same : m ≡ n = omega arith in rw same (getD-at (each-below f n) (f n) [] (pos 0) n (below-length n))
+
+  -- nothing is filled yet
+  pub filled-none : (now : List ℤ) → take 0 now ≡ each-below f 0
+  unfolding each-below
+  filled-none now = refl
+
+  -- one entry more, from a value as the machine holds it
+  pub filled-more : (now : List ℤ) {v : ℤ} (m : ℕ) → m < length now → take m now ≡ each-below f m → mag v < 2 ^ 63 → v ≡ f m
+      → take (m + 1) (set now m (toZ w64 (ofZ w64 v))) ≡ each-below f (m + 1)
+  unfolding each-below
+  filled-more now {v} m h so-far range is = rw (toZ-ofZ w64 v (record { sfits = range }), add-one, take-suc-set now m v h, so-far, is)

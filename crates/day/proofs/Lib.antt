@@ -1,0 +1,6 @@
+pub mod SearchLaws
+pub mod CurveLaws
+pub mod DateLaws
+pub mod CrossingLaws
+pub mod AnswerLaws
+pub mod ClaimsHold

@@ -1,0 +1,49 @@
+-- The curve (02, Item 1): a whole day of 1,440 elevations, worked once and kept.
+use mathlib.Core.List.{List, [], _++_, _∷_}
+use Prim.Native.Nat.{_*_, _<_, suc, zero, ℕ}
+use lib.IntN.{pos, ℤ}
+use Rattle.sum_rules.specs.Instant.{Accepted, second, terrestrial-time, universal-time}
+use Rattle.sum_rules.specs.declared.instant.Instant.{Instant}
+use Rattle.sky_vectors.specs.Place.{place-at, place-from}
+use Rattle.sky_vectors.specs.declared.geocentric.Body.{Body}
+use Rattle.sky_vectors.specs.declared.station.Point.{Point}
+use Rattle.sky_vectors.specs.declared.station.Runner.{Runner}
+use Rattle.day.specs.Date.{days}
+use Rattle.day.specs.declared.date.Date.{Date}
+
+-- minutes 0 to 1439
+abbrev pub minutes : ℕ
+minutes = 1440
+
+-- units of time to a minute
+abbrev pub minute : ℕ
+minute = 60 * second
+
+-- minute m of the day d days from 2000-01-01, with the date's UT1 minus UTC and delta-T: 01's instant at hh:mm:00.0 (`Claims`)
+unfoldable pub minute-of : Date → ℤ → ℕ → Instant
+minute-of date d m =
+    let ut = universal-time d (pos (m * minute)) (date .ut1) in
+    record { ut = ut; tt = terrestrial-time ut (date .«delta_t») }
+
+-- the elevation without refraction at that minute
+abbrev pub elevation-on : Date → Body → Point → ℤ → ℕ → ℤ
+elevation-on date body point d m = place-at body point (minute-of date d m) .elevation
+
+-- f of each number below n, in order
+unfoldable pub each-below : (ℕ → ℤ) → ℕ → List ℤ
+each-below f zero = []
+each-below f (suc n) = each-below f n ++ (f n ∷ [])
+
+-- entry m is the elevation at minute m of the date
+unfoldable pub curve : Date → Body → Point → List ℤ
+curve date body point = each-below (elevation-on date body point (days date)) minutes
+
+-- ---- how it is worked
+
+-- the same from where a runner stands, who is worked out once
+abbrev pub elevation-from : Body → Runner → Date → ℤ → ℕ → ℤ
+elevation-from body runner date d m = place-from body runner (minute-of date d m) .elevation
+
+-- a day whose every minute is accepted
+pub record AcceptedDay (date : Date) (d : ℤ) : Type 0 where
+  pub each : (m : ℕ) → m < minutes → Accepted d (pos (m * minute)) (date .ut1) (date .«delta_t»)

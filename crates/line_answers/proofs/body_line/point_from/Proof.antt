@@ -1,0 +1,47 @@
+-- `line_answers::body_line::point_from` meets its contract.
+use borrow.Author.Needs.{needs}
+use Rattle.line_answers.specs.BodyLine.{point-from}
+use Rattle.line_answers.proofs.body_line.point_from.Statement.{statement}
+use Rattle.line_answers.proofs.body_line.point_from.Tie as tie
+
+mul-t4 : tie.Need-mul-t4
+mul-t4 c = search needs
+
+array-copy-out-t7 : tie.Need-array-copy-out-t7
+array-copy-out-t7 c = search needs
+
+add-t8 : tie.Need-add-t8
+add-t8 c = search needs
+
+mul-t9 : tie.Need-mul-t9
+mul-t9 c = search needs
+
+array-copy-out-t12 : tie.Need-array-copy-out-t12
+array-copy-out-t12 c = search needs
+
+add-t13 : tie.Need-add-t13
+add-t13 c = search needs
+
+mul-t14 : tie.Need-mul-t14
+mul-t14 c = search needs
+
+array-copy-out-t17 : tie.Need-array-copy-out-t17
+array-copy-out-t17 c = search needs
+
+returns : tie.Need-returns
+unfolding point-from
+returns c = search needs
+
+pub point-from-spec : {M : Type 1} → statement M
+point-from-spec =
+    tie.close
+    (tie.spec
+    mul-t4
+    array-copy-out-t7
+    add-t8
+    mul-t9
+    array-copy-out-t12
+    add-t13
+    mul-t14
+    array-copy-out-t17
+    returns)
