@@ -1,9 +1,8 @@
 // The program `days`: the days and refusals of tests/vectors/days.txt to the minute, and lines of every form.
 use std::env;
-use std::fs;
 
 mod program;
-use program::printed;
+use program::{printed, vectors};
 
 const NUMBERS: &str = "2003 10 17 0 670 -1051786000 397424760 1830";
 const SUN: &str = "13:13 00:21\n";
@@ -29,18 +28,6 @@ fn case(vector: &str) -> Option<(String, String)> {
         refusal => format!("refused {refusal}\n"),
     };
     Some((format!("{request}\n"), line))
-}
-
-fn vectors(program: &str, path: &str) -> usize {
-    let text = fs::read_to_string(path).unwrap();
-    let (requests, answers): (Vec<String>, Vec<String>) = text.lines().filter_map(case).unzip();
-    let output = printed(program, requests.concat().as_bytes());
-    let lines: Vec<&str> = output.split_inclusive('\n').collect();
-    assert_eq!(lines.len(), answers.len());
-    for ((request, answer), line) in requests.iter().zip(&answers).zip(lines) {
-        assert_eq!(line, answer, "{request}");
-    }
-    answers.len()
 }
 
 // Inputs with what is printed for them.
@@ -72,7 +59,7 @@ fn forms(program: &str) -> usize {
 fn main() {
     let program = env::args().nth(1).expect("the program");
     let path = env::args().nth(2).expect("the file of vectors");
-    let count = vectors(&program, &path);
+    let count = vectors(&program, &path, case);
     assert!(count >= 75, "{count} vectors");
     println!("days: {count} vectors and {} further inputs come out", forms(&program));
 }

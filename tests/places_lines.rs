@@ -1,9 +1,8 @@
 // The program `places`: the places and refusals of tests/vectors/places.txt to the last decimal, and lines of every form.
 use std::env;
-use std::fs;
 
 mod program;
-use program::printed;
+use program::{printed, vectors};
 
 const NUMBERS: &str = "2003 10 17 19 30 30 0 0 670 -1051786000 397424760 1830";
 const SUN: &str = "194.34024073 39.87204605\n";
@@ -29,18 +28,6 @@ fn case(vector: &str) -> Option<(String, String)> {
         refusal => format!("refused {refusal}\n"),
     };
     Some((words[..13].join(" ") + "\n", line))
-}
-
-fn vectors(program: &str, path: &str) -> usize {
-    let text = fs::read_to_string(path).unwrap();
-    let (requests, answers): (Vec<String>, Vec<String>) = text.lines().filter_map(case).unzip();
-    let output = printed(program, requests.concat().as_bytes());
-    let lines: Vec<&str> = output.split_inclusive('\n').collect();
-    assert_eq!(lines.len(), answers.len());
-    for ((request, answer), line) in requests.iter().zip(&answers).zip(lines) {
-        assert_eq!(line, answer, "{request}");
-    }
-    answers.len()
 }
 
 // Inputs with what is printed for them.
@@ -86,7 +73,7 @@ fn large(program: &str) -> usize {
 fn main() {
     let program = env::args().nth(1).expect("the program");
     let path = env::args().nth(2).expect("the file of vectors");
-    let count = vectors(&program, &path);
+    let count = vectors(&program, &path, case);
     assert_eq!(count, 181);
     let further = forms(&program) + large(&program);
     println!("places: {count} vectors and {further} further inputs come out");
