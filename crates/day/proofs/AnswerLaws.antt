@@ -1,7 +1,5 @@
 -- Demand 3 of a day, and that an answer is told from any other by its numbers.
-use mathlib.Core.Path.{_∙_, _≡_, ap, refl, subst⁻¹, sym}
-use Prim.Native.Nat.{ℕ}
-use native.Mathlib.Omega.{arith}
+use mathlib.Core.Path.{_∙_, _≡_, ap, subst⁻¹, sym}
 use lib.Dec.{T, lit<}
 use lib.IntN.{_-ℤ_, pos}
 use lib.Signed.{ltZ-yes}
@@ -11,24 +9,16 @@ use Rattle.sky.proofs.AnswerLaws.{judged-refusal}
 use Rattle.sum_rules.proofs.Accurate.{sums-near}
 use Rattle.sky.specs.Answer.{Answer}
 use Rattle.day.specs.Answer.{RiseSetNumbers, crossings, neither, rise-and-set, rise-set-answer, rise-set-numbers}
-use Rattle.day.specs.Crossing.{CrossingNumbers, crossing-numbers}
-use Rattle.day.specs.Curve.{AcceptedDay, minute-of}
+use Rattle.day.specs.Curve.{AcceptedDay, last-minute, minute-of}
 use Rattle.day.specs.Demand3.{EveryDayNear}
 use Rattle.day.specs.Date.{day-refusals, days}
 use Rattle.day.specs.declared.answer.RiseSet.{RiseSet}
 use Rattle.day.specs.declared.answer.RiseSetAnswer.{RiseSetAnswer}
 use Rattle.day.specs.declared.answer.RiseSetAnswer.the-variants.{Refused, Seen}
-use Rattle.day.specs.declared.crossing.Crossing.{Crossing}
-use Rattle.day.specs.declared.crossing.Crossing.the-variants.{Minute, None}
+use Rattle.day.proofs.CrossingLaws.{crossing-tells}
 use Rattle.day.proofs.DateLaws.{accepted-day, day-before, minute-reachable}
 
 -- ---- one answer and no other
-crossing-tells : (x y : Crossing) → crossing-numbers x ≡ crossing-numbers y → x ≡ y
-crossing-tells (Minute m) (Minute n) same = ap (λ (c : CrossingNumbers). Minute (c .minute)) same
-crossing-tells (Minute m) None same = let never : _≡_ {A = ℕ} 1 0 = ap (λ (c : CrossingNumbers). c .has) same in absurd (omega (arith, never))
-crossing-tells None (Minute n) same = let never : _≡_ {A = ℕ} 0 1 = ap (λ (c : CrossingNumbers). c .has) same in absurd (omega (arith, never))
-crossing-tells None None same = refl
-
 seen-tells : (x y : RiseSet) → rise-set-numbers x ≡ rise-set-numbers y → x ≡ y
 seen-tells x y same =
     let rise = crossing-tells (x .rise) (y .rise) (ap (λ (n : RiseSetNumbers). n .rise) same) in
@@ -53,7 +43,7 @@ unfolding rise-and-set
 every-day-near date body point =
     record {
       near = λ e m h. sums-near (minute-of date (days date) m .tt) (minute-reachable (today e) m h .tt-near);
-      near-before = λ e before. sums-near (minute-of date (days date -ℤ pos 1) 1439 .tt) (minute-reachable (day-before (today e) .accepted (ltZ-yes (subst⁻¹ T before tt))) 1439 (lit< tt) .tt-near);
+      near-before = λ e before. sums-near (minute-of date (days date -ℤ pos 1) last-minute .tt) (minute-reachable (day-before (today e) .accepted (ltZ-yes (subst⁻¹ T before tt))) last-minute (lit< tt) .tt-near);
     }
   where
     passes : rise-and-set date body point .refusal ≡ 0 → first (day-refusals date point) ≡ 0

@@ -4,7 +4,7 @@ use Rattle.request.specs.Request.{instant}
 use Rattle.sum_rules.specs.Instant.{terrestrial-time, universal-time}
 use Rattle.day.specs.Claims.{EveryDayTold, MinuteBefore, MinutesAreClocks}
 use Rattle.day.specs.Crossing.{is-at}
-use Rattle.day.specs.Curve.{minute-of}
+use Rattle.day.specs.Curve.{last-minute, minute-of}
 use Rattle.day.specs.Date.{days}
 use Rattle.day.specs.declared.crossing.Event.the-variants.{Rise, Set}
 use Rattle.day.specs.declared.date.Date.{Date}
@@ -22,7 +22,7 @@ minute-before : (date : Date) → MinuteBefore date
 unfolding minute-of instant
 minute-before date before d ut1 delta =
     λ i.
-    let ut = universal-time (sym d i) (sym (elapsed-is before 1439) i) (sym ut1 i) in
+    let ut = universal-time (sym d i) (sym (elapsed-is before last-minute) i) (sym ut1 i) in
     record { ut = ut; tt = terrestrial-time ut (sym delta i) }
 
 pub every-day-told : EveryDayTold

@@ -1,4 +1,4 @@
--- The first minute of an event: the two claims on what is given, for any test; that the entries of the curve decide the event; that no minute is both a rise and a set, and that a day without either stays on one side.
+-- The first minute of an event: that its numbers tell it from any other; the two claims on what is given, for any test; that the entries of the curve decide the event; that no minute is both a rise and a set, and that a day without either stays on one side.
 use mathlib.Core.Bool.{Bool, _&&_, cond, false, true}
 use mathlib.Core.Path.{_∙_, _≡_, ap, refl, subst}
 use Prim.Native.Nat.{_<_, suc, zero, ℕ}
@@ -9,20 +9,34 @@ use lib.Dec.{ltb}
 use lib.IntN.{_-ℤ_, pos, ℤ}
 use lib.Signed.{ltZ}
 use borrow.Author.Tests.{le-ltb, lt-ltb}
+use Rattle.calendar.proofs.RefusalLaws.{one-answer}
+use Rattle.calendar.specs.Refusal.{OneAnswer}
 use Rattle.sum_rules.specs.Instant.{first-day}
 use Rattle.sky_vectors.specs.declared.geocentric.Body.{Body}
 use Rattle.sky_vectors.specs.declared.station.Point.{Point}
 use Rattle.day.specs.Claims.{First, FirstOrNone, NeverTogether, Nowhere, OneSide}
-use Rattle.day.specs.Crossing.{CrossingNumbers, at-minute, at-none, crosses, first-minute, has-before, is-at, is-up, up-at, up-before}
-use Rattle.day.specs.Curve.{curve, elevation-on, minutes}
+use Rattle.day.specs.Crossing.{CrossingNumbers, at-minute, at-none, crosses, crossing-numbers, first-minute, has-before, is-at, is-up, up-at, up-before}
+use Rattle.day.specs.Curve.{curve, elevation-on, last-minute, minutes}
 use Rattle.day.specs.Date.{days}
 use Rattle.day.specs.Search.{first-where}
 use Rattle.day.specs.Worked.{crosses-in, entry}
+use Rattle.day.specs.declared.crossing.Crossing.{Crossing}
+use Rattle.day.specs.declared.crossing.Crossing.the-variants.{Minute, None}
 use Rattle.day.specs.declared.crossing.Event.{Event}
 use Rattle.day.specs.declared.crossing.Event.the-variants.{Rise, Set}
 use Rattle.day.specs.declared.date.Date.{Date}
 use Rattle.day.proofs.CurveLaws.{below-entry}
 use Rattle.day.proofs.SearchLaws.{before, clash, is-first, same-first, there}
+
+-- ---- one answer and no other
+pub crossing-tells : (x y : Crossing) → crossing-numbers x ≡ crossing-numbers y → x ≡ y
+crossing-tells (Minute m) (Minute n) same = ap (λ (c : CrossingNumbers). Minute (c .minute)) same
+crossing-tells (Minute m) None same = let never : _≡_ {A = ℕ} 1 0 = ap (λ (c : CrossingNumbers). c .has) same in absurd (omega (arith, never))
+crossing-tells None (Minute n) same = let never : _≡_ {A = ℕ} 0 1 = ap (λ (c : CrossingNumbers). c .has) same in absurd (omega (arith, never))
+crossing-tells None None same = refl
+
+pub one-crossing : {found : Crossing} {rule : CrossingNumbers} → crossing-numbers found ≡ rule → OneAnswer crossing-numbers rule found
+one-crossing = one-answer crossing-tells
 
 -- ---- what is given, for any test
 module _ (test : ℕ → Bool) where
@@ -93,15 +107,15 @@ module _ (date : Date) (body : Body) (point : Point) where
 
   -- on which side the body is before minute 0; before the first day that of minute 0
   abbrev pub side-before : Bool
-  side-before = cond (ltZ first-day (days date)) (is-up (elevation-on date body point (days date -ℤ pos 1) 1439)) (is-up (at 0))
+  side-before = cond (ltZ first-day (days date)) (is-up (elevation-on date body point (days date -ℤ pos 1) last-minute)) (is-up (at 0))
 
   module _ (event : Event) where
     same-test : (m : ℕ) → m < minutes → crosses-in event side-before (curve date body point) m ≡ is-at event date body point m
     unfolding is-at
     same-test zero h = rw (entry-is 0 h) (go (ltZ first-day (days date)))
       where
-        go : (b : Bool) → crosses event (cond b (is-up (elevation-on date body point (days date -ℤ pos 1) 1439)) (is-up (at 0))) (is-up (at 0))
-            ≡ b && crosses event (is-up (elevation-on date body point (days date -ℤ pos 1) 1439)) (is-up (at 0))
+        go : (b : Bool) → crosses event (cond b (is-up (elevation-on date body point (days date -ℤ pos 1) last-minute)) (is-up (at 0))) (is-up (at 0))
+            ≡ b && crosses event (is-up (elevation-on date body point (days date -ℤ pos 1) last-minute)) (is-up (at 0))
         go true = refl
         go false = same-side event (is-up (at 0))
     same-test (suc m) h = rw (entry-is m (omega arith), entry-is (suc m) h) refl

@@ -7,7 +7,7 @@ use Rattle.request.specs.Request.{instant}
 use Rattle.sky_vectors.specs.declared.geocentric.Body.{Body}
 use Rattle.sky_vectors.specs.declared.station.Point.{Point}
 use Rattle.day.specs.Crossing.{at-minute, at-none, first-minute, is-at, up-at}
-use Rattle.day.specs.Curve.{minute-of, minutes}
+use Rattle.day.specs.Curve.{last-minute, minute-of, minutes}
 use Rattle.day.specs.Date.{clock, days}
 use Rattle.day.specs.declared.crossing.Event.the-variants.{Rise, Set}
 use Rattle.day.specs.declared.date.Date.{Date}
@@ -22,7 +22,7 @@ MinutesAreClocks date = (m : ℕ) → minute-of date (days date) m ≡ instant (
 abbrev pub MinuteBefore : Date → Type 0
 MinuteBefore date =
     (before : Date) → days before ≡ days date -ℤ pos 1 → before .ut1 ≡ date .ut1 → before .«delta_t» ≡ date .«delta_t»
-    → minute-of date (days date -ℤ pos 1) 1439 ≡ instant (clock before 23 59)
+    → minute-of date (days date -ℤ pos 1) last-minute ≡ instant (clock before 23 59)
 
 -- ---- THE TWO CLAIMS on each answer: which minute is given, and when none is
 

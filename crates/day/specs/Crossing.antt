@@ -7,7 +7,7 @@ use lib.Signed.{leZ, ltZ}
 use Rattle.sum_rules.specs.Instant.{first-day, minus}
 use Rattle.sky_vectors.specs.declared.geocentric.Body.{Body}
 use Rattle.sky_vectors.specs.declared.station.Point.{Point}
-use Rattle.day.specs.Curve.{elevation-on, minutes}
+use Rattle.day.specs.Curve.{elevation-on, last-minute, minutes}
 use Rattle.day.specs.Date.{days}
 use Rattle.day.specs.Search.{first-where}
 use Rattle.day.specs.declared.crossing.Crossing.{Crossing}
@@ -35,7 +35,7 @@ up-at date body point m = is-up (elevation-on date body point (days date) m)
 
 -- at the minute before m; the minute before 0 belongs to the day before
 abbrev pub up-before : Date → Body → Point → ℕ → Bool
-up-before date body point zero = is-up (elevation-on date body point (days date -ℤ pos 1) 1439)
+up-before date body point zero = is-up (elevation-on date body point (days date -ℤ pos 1) last-minute)
 up-before date body point (suc m) = up-at date body point m
 
 -- on 1900-01-01 minute 0 has no minute before and can't be either

@@ -1,6 +1,6 @@
 -- The curve (02, Item 1): a whole day of 1,440 elevations, worked once and kept.
 use mathlib.Core.List.{List, [], _++_, _∷_}
-use Prim.Native.Nat.{_*_, _<_, suc, zero, ℕ}
+use Prim.Native.Nat.{_*_, _-_, _<_, suc, zero, ℕ}
 use lib.IntN.{pos, ℤ}
 use Rattle.sum_rules.specs.Instant.{Accepted, second, terrestrial-time, universal-time}
 use Rattle.sum_rules.specs.declared.instant.Instant.{Instant}
@@ -14,6 +14,10 @@ use Rattle.day.specs.declared.date.Date.{Date}
 -- minutes 0 to 1439
 abbrev pub minutes : ℕ
 minutes = 1440
+
+-- the last of them, 23:59
+abbrev pub last-minute : ℕ
+last-minute = minutes - 1
 
 -- units of time to a minute
 abbrev pub minute : ℕ

@@ -8,13 +8,13 @@ use Rattle.sky_vectors.specs.declared.geocentric.Body.{Body}
 use Rattle.sky_vectors.specs.declared.station.Point.{Point}
 use Rattle.day.specs.Answer.{rise-and-set}
 use Rattle.day.specs.Crossing.{has-before}
-use Rattle.day.specs.Curve.{minute-of, minutes}
+use Rattle.day.specs.Curve.{last-minute, minute-of, minutes}
 use Rattle.day.specs.Date.{days}
 use Rattle.day.specs.declared.date.Date.{Date}
 
 pub record DayNear (date : Date) (body : Body) (point : Point) : Type 0 where
   pub near : rise-and-set date body point .refusal ≡ 0 → (m : ℕ) → m < minutes → SumsNear (minute-of date (days date) m .tt)
-  pub near-before : rise-and-set date body point .refusal ≡ 0 → has-before date 0 ≡ true → SumsNear (minute-of date (days date -ℤ pos 1) 1439 .tt)
+  pub near-before : rise-and-set date body point .refusal ≡ 0 → has-before date 0 ≡ true → SumsNear (minute-of date (days date -ℤ pos 1) last-minute .tt)
 
 -- THE CLAIM, for every request
 abbrev pub EveryDayNear : Type 0

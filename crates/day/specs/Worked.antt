@@ -9,7 +9,7 @@ use Rattle.sum_rules.specs.Instant.{first-day}
 use Rattle.sky_vectors.specs.declared.geocentric.Body.{Body}
 use Rattle.sky_vectors.specs.declared.station.Runner.{Runner}
 use Rattle.day.specs.Crossing.{crosses, is-up}
-use Rattle.day.specs.Curve.{AcceptedDay, elevation-from}
+use Rattle.day.specs.Curve.{AcceptedDay, elevation-from, last-minute}
 use Rattle.day.specs.declared.crossing.Event.{Event}
 use Rattle.day.specs.declared.date.Date.{Date}
 
@@ -31,4 +31,4 @@ pub record DayBefore (date : Date) (d : ℤ) : Type 0 where
 
 -- at 23:59 of the day before; before the first day as at its minute 0, so that nothing is crossed there
 abbrev pub up-before-day : Body → Runner → Date → ℤ → ℤ → Bool
-up-before-day body runner date d first = cond (ltZ first-day d) (is-up (elevation-from body runner date (d -ℤ pos 1) 1439)) (is-up first)
+up-before-day body runner date d first = cond (ltZ first-day d) (is-up (elevation-from body runner date (d -ℤ pos 1) last-minute)) (is-up first)

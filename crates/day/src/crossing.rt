@@ -2,6 +2,7 @@
 use super::curve::MINUTES;
 ghost use mathlib.Core.Path.{_≡_};
 ghost use lib.ListN.{length};
+ghost use Rattle.calendar.specs.Refusal.{OneAnswer};
 ghost use Rattle.day.specs.Crossing.{crosses, crossing-numbers, first-minute, is-up};
 ghost use Rattle.day.specs.Curve.{minutes};
 ghost use Rattle.day.specs.Worked.{crosses-in};
@@ -39,7 +40,7 @@ fn crosses(event: Event, before: bool, now: bool) -> bool
 // The first minute of a curve at which the event is, given whether the body was up at the minute before the first.
 pub fn first_crossing(event: Event, up_before: bool, curve: &[i64]) -> Crossing
     requires { ⌜ length (now curve) ≡ minutes ⌝ }
-    ensures { λ r. ⌜ crossing-numbers r ≡ first-minute (crosses-in event «up_before» (now (curve .entry))) ⌝ }
+    ensures { λ r. ⌜ OneAnswer crossing-numbers (first-minute (crosses-in event «up_before» (now (curve .entry)))) r ⌝ }
 {
     let mut before = up_before;
     let mut minute = 0;

@@ -2,7 +2,7 @@
 use mathlib.Core.Bool.{Bool, cond, false, true}
 use mathlib.Core.List.{List, _++_}
 use mathlib.Core.Option.{Option, none}
-use mathlib.Core.Path.{_≡_, refl, subst}
+use mathlib.Core.Path.{_∙_, _≡_, ap, refl, subst, sym}
 use Prim.Native.Nat.{_+_, _<_, _≤_, ℕ}
 use native.Mathlib.Omega.{arith}
 use lib.IntN.{pos, ℤ}
@@ -32,8 +32,16 @@ begins-at line = go (begins (bytes "sun ") line) (begins (bytes "moon ") line) r
     go false true e f = (begins-within (bytes "moon ") line f, omega arith)
     go false false e f = tt
 
-pub start-within : (line : List ℕ) {body : Body} {start : ℕ} → body-line line ≡ Of body start → start ≤ length line
-start-within line e = subst (At line) e (begins-at line) .0
+-- what a call of `body_line` told: where the numbers begin, and what is answered
+module _ (line : List ℕ) {found of : BodyLine} (called : found ≡ body-line line) (told : found ≡ of) where
+  is-of : body-line line ≡ of
+  is-of = sym called ∙ told
+
+  pub told-by-body : {A : Type 0} (rule : Body → List ℕ → A) (other : A) → by-body rule other of line ≡ by-body rule other (body-line line) line
+  told-by-body rule other = sym (ap (λ (of : BodyLine). by-body rule other of line) is-of)
+
+pub start-within : (line : List ℕ) {found : BodyLine} {body : Body} {start : ℕ} → found ≡ body-line line → found ≡ Of body start → start ≤ length line
+start-within line called told = subst (At line) (is-of line called told) (begins-at line) .0
 
 -- a long line has no numbers
 pub long-numbers : (short count : ℕ) → count ≤ 12 → (words : List ℕ) → 143 < length words → body-numbers short count words ≡ none

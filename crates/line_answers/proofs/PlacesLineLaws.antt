@@ -18,7 +18,6 @@ use Rattle.request.specs.Request.{start-from}
 use Rattle.refraction.specs.declared.air.Air.the-variants as Airs
 use Rattle.sky_vectors.specs.declared.place.Place.{Place}
 use Rattle.sky_vectors.specs.declared.geocentric.Body.{Body}
-use Rattle.sky_vectors.specs.declared.geocentric.Body.the-variants as Bodies
 use Rattle.line_answers.proofs.BodyLineLaws.{long-numbers, padded-point, too-long}
 use Rattle.line_answers.proofs.SheetLaws.{padded-start}
 

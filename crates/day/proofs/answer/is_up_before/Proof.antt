@@ -12,7 +12,7 @@ use Rattle.sum_rules.proofs.AcceptedInstants.{days-small}
 use Rattle.sum_rules.specs.Instant.{first-day}
 use Rattle.sum_rules.specs.declared.instant.Instant.{Instant}
 use Rattle.day.specs.Crossing.{is-up}
-use Rattle.day.specs.Curve.{AcceptedDay, minute-of}
+use Rattle.day.specs.Curve.{AcceptedDay, last-minute, minute-of}
 use Rattle.day.proofs.DateLaws.{minute-reachable}
 use Rattle.day.proofs.answer.is_up_before.Statement.{statement}
 use Rattle.day.proofs.answer.is_up_before.Tie as tie
@@ -42,13 +42,13 @@ minute-of-requires c κs = (subst⁻¹ (AcceptedDay (s c .args .date)) (kept (le
 
 -- its last minute
 module _ (c : tie.After-minute-of) where
-  last-is : c .minute-of .result ≡ minute-of (s (c .before) .args .date) (s (c .before) .args .days -ℤ pos 1) 1439
-  last-is = c .minute-of .ensures ∙ ap (λ (d : ℤ). minute-of (s (c .before) .args .date) d 1439) (kept (less-one (c .before)) tt .same)
+  last-is : c .minute-of .result ≡ minute-of (s (c .before) .args .date) (s (c .before) .args .days -ℤ pos 1) last-minute
+  last-is = c .minute-of .ensures ∙ ap (λ (d : ℤ). minute-of (s (c .before) .args .date) d last-minute) (kept (less-one (c .before)) tt .same)
 
 elevation-from-requires : tie.Need-elevation-from-requires
 elevation-from-requires c κs =
     let s = s (c .before) in
-    (s .pre .0, (s .pre .1 .0, subst⁻¹ Reachable (last-is c) (minute-reachable (yesterday (c .before)) 1439 (lit< tt))))
+    (s .pre .0, (s .pre .1 .0, subst⁻¹ Reachable (last-is c) (minute-reachable (yesterday (c .before)) last-minute (lit< tt))))
 
 is-up-requires : tie.Need-is-up-requires
 is-up-requires c κs = search needs

@@ -85,8 +85,8 @@ returns c =
     let risen = c .before .before in
     let k = risen .before .before in
     let a = asked k .args in
-    let rise = risen .first-crossing .ensures ∙ ((λ i. first-minute (crosses-in Rise (side-is k i) (curve-is k i))) ∙ curve-decides (a .date) (a .body) (a .point) Rise) in
-    let set = c .first-crossing2 .ensures ∙ ((λ i. first-minute (crosses-in Set (side-is k i) (curve-is k i))) ∙ curve-decides (a .date) (a .body) (a .point) Set) in
+    let rise = risen .first-crossing .ensures .equal ∙ ((λ i. first-minute (crosses-in Rise (side-is k i) (curve-is k i))) ∙ curve-decides (a .date) (a .body) (a .point) Rise) in
+    let set = c .first-crossing2 .ensures .equal ∙ ((λ i. first-minute (crosses-in Set (side-is k i) (curve-is k i))) ∙ curve-decides (a .date) (a .body) (a .point) Set) in
     ((λ i. record { rise = rise i; set = set i }), curve-is k)
 
 pub work-spec : {M : Type 1} → statement M

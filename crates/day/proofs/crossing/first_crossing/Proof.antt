@@ -8,9 +8,10 @@ use borrow.Author.Count.{below-more}
 use borrow.Author.Needs.{needs}
 use Rattle.numbers.proofs.Machine.{passed}
 use Rattle.day.specs.Curve.{minutes}
+use Rattle.day.specs.Claims.{First}
 use Rattle.day.specs.Crossing.{crosses, is-up}
 use Rattle.day.specs.Worked.{crosses-in, entry, up-until}
-use Rattle.day.proofs.CrossingLaws.{first-given, nowhere-given}
+use Rattle.day.proofs.CrossingLaws.{first-given, nowhere-given, one-crossing}
 use Rattle.day.proofs.crossing.first_crossing.Statement.{statement}
 use Rattle.day.proofs.crossing.first_crossing.Tie as tie
 
@@ -61,7 +62,10 @@ cast-t12 : tie.Need-cast-t12 Inv-loop μ-loop
 cast-t12 c = omega arith
 
 returns : tie.Need-returns Inv-loop μ-loop
-returns c = sym (first-given (test (c .before)) (minute (c .before)) (record { in-day = omega arith; holds = here (c .before) ∙ c .if1 .taken; none-before = at (c .before) .loop .inv .2 }))
+returns c =
+    let k = c .before in
+    let first : First (test k) (minute k) = record { in-day = omega arith; holds = here k ∙ c .if1 .taken; none-before = at k .loop .inv .2 } in
+    one-crossing (sym (first-given (test k) (minute k) first))
 
 add-minute : tie.Need-add-minute Inv-loop μ-loop
 add-minute c = search needs
@@ -77,7 +81,7 @@ loop-again c =
 returns-2 : tie.Need-returns-2 Inv-loop μ-loop
 returns-2 c =
     let a = c .before .before .args in
-    sym (nowhere-given (crosses-in (a .event) (a .up-before) (a .curve .now)) (λ m h. c .before .loop .inv .2 m (omega arith)))
+    one-crossing (sym (nowhere-given (crosses-in (a .event) (a .up-before) (a .curve .now)) (λ m h. c .before .loop .inv .2 m (omega arith))))
 
 pub first-crossing-spec : {M : Type 1} → statement M
 first-crossing-spec =
