@@ -326,11 +326,17 @@ fn any(random: &mut Random) -> i64 {
     (random.next() as i64) >> random.below(64)
 }
 
+// A square, or a number beside one.
+fn about_square(random: &mut Random) -> u64 {
+    let root = random.next() >> 32 >> random.below(32);
+    (root * root).wrapping_add(random.below(3)).wrapping_sub(1)
+}
+
 fn leaves(random: &mut Random) {
-    let (x, y) = (any(random), any(random));
-    let ours = unsafe { (raddlehue_sine(x), raddlehue_cosine(x), raddlehue_arctangent(y, x), raddlehue_root(x as u64)) };
-    let expected = (reference::sine(x), reference::cosine(x), reference::arctangent(y, x), reference::root(x as u64));
-    same("sine, cosine, arctangent, root", (x, y), (0, ours), (0, expected), &mut [0; 256]);
+    let (x, y, square) = (any(random), any(random), about_square(random));
+    let ours = unsafe { (raddlehue_sine(x), raddlehue_cosine(x), raddlehue_arctangent(y, x), raddlehue_root(x as u64), raddlehue_root(square)) };
+    let expected = (reference::sine(x), reference::cosine(x), reference::arctangent(y, x), reference::root(x as u64), reference::root(square));
+    same("sine, cosine, arctangent, root, root", (x, y, square), (0, ours), (0, expected), &mut [0; 256]);
 }
 
 fn sums_at(random: &mut Random, seen: &mut Seen) {

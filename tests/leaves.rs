@@ -1,4 +1,4 @@
-// Every sine, cosine, arctangent and root of tests/vectors/leaves.txt, and every day from 1899 to 2101, through the archive.
+// Every sine, cosine, arctangent and root of tests/vectors/leaves.txt, roots at every edge of a number's digits, and every day from 1899 to 2101, through the archive.
 use std::env;
 use std::fs;
 
@@ -59,6 +59,23 @@ fn calendar() -> usize {
     count
 }
 
+// The root by what it is, the greatest whole number whose square isn't above, where its digits change: small numbers, places where a pair of digits begins,
+// powers of two, squares (of small numbers, of a digit or two and zeros, of the last ones that fit), each with its neighbours.
+fn roots() -> usize {
+    let tens = (0..=19).map(|places| 10_u128.pow(places));
+    let near = |edge: u128| [edge.saturating_sub(1), edge, edge + 1];
+    let two_digits = tens.clone().flat_map(|unit| (1..=99).map(move |digits| digits * unit));
+    let squares = (0..=10_000).chain(4_294_957_296..=4_294_967_296).chain(two_digits).map(|root| root * root);
+    let edges = (0..=10_000).chain(tens).chain((0..=64).map(|bits| 1 << bits)).chain(squares).flat_map(near);
+    let mut count = 0;
+    for square in edges.filter_map(|edge| u64::try_from(edge).ok()) {
+        let root = u128::from(unsafe { raddlehue_root(square) });
+        assert!(root * root <= square.into() && u128::from(square) < (root + 1) * (root + 1), "root {square} | {root}");
+        count += 1;
+    }
+    count
+}
+
 fn main() {
     let path = env::args().nth(1).expect("the file of vectors");
     let mut count = 0;
@@ -72,5 +89,5 @@ fn main() {
         count += 1;
     }
     assert_eq!(count, 960);
-    println!("leaves: {count} vectors and {} dates come out", calendar());
+    println!("leaves: {count} vectors, {} roots at edges and {} dates come out", roots(), calendar());
 }

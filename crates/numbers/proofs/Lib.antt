@@ -4,3 +4,4 @@ pub mod SignLaws
 pub mod WideProduct
 pub mod AngleLaws
 pub mod RootLaws
+pub mod RootDigitsLaws

@@ -1,3 +1,4 @@
 pub mod Whole
 pub mod Root
+pub mod RootDigits
 pub mod SineCosine

@@ -1,68 +1,81 @@
--- `numbers::root::root` meets its contract. The invariant: r is above zero, x is below the square of r + 1, and next is the step from r.
-use mathlib.Core.Path.{_≡_, refl}
-use Prim.Native.Nat.{_*_, _+_, _/_, _<_, _≤_, ℕ}
+-- `numbers::root::root` meets its contract. The invariant: the root so far is the greatest whole number whose square isn't above the first k pairs of x.
+use mathlib.Core.Path.{_≡_, refl, sym}
+use Prim.Native.Nat.{_*_, _+_, _-_, _<_, _≤_, ℕ}
 use native.Mathlib.Omega.{arith}
-use Rattle.numbers.proofs.RootLaws.{is-root, step-above, step-high, step-small, stop-low}
+use lib.ListN.{getD}
+use Rattle.numbers.specs.RootDigits.{AfterDigit, digits-of, pair, pairs, taken}
+use Rattle.numbers.specs.declared.root.SoFar.{SoFar}
+use Rattle.numbers.proofs.RootDigitsLaws.{last-is-root, pair-by-pair, pair-most, taken-most}
+use Rattle.numbers.proofs.RootLaws.{between}
 use Rattle.numbers.proofs.root.root.Statement.{statement}
 use Rattle.numbers.proofs.root.root.Tie as tie
 
-record Near (x r next : ℕ) : Type 0 where
-  some : 0 < x
-  above : 0 < r
-  most : r ≤ 4294967296
-  high : x < (r + 1) * (r + 1)
-  step : next ≡ (r + x / r) / 2
-
 abbrev Inv-loop : tie.InvT-loop
-Inv-loop x r₀ next₀ r next = Near x r next
+Inv-loop x marked so-far₀ k₀ so-far k = (k ≤ pairs) × AfterDigit (taken x k) so-far
 
 abbrev μ-loop : tie.MeasureT-loop
-μ-loop x r₀ next₀ r next = r
+μ-loop x marked so-far₀ k₀ so-far k = pairs - k
 
--- a step that falls
-module _ {x r next : ℕ} (n : Near x r next) (l : next < r) where
-  next-above : 0 < next
-  next-above = rw (n .step) (step-above x r (n .some) (n .above))
+-- one round, in which the pair after k others is taken
+module _ (c : tie.In-loop Inv-loop μ-loop) where
+  abbrev x : ℕ
+  x = c .before .before .before .args .x
 
-  next-high : x < (next + 1) * (next + 1)
-  next-high = rw (n .step) (step-high x r (n .above))
+  abbrev k : ℕ
+  k = c .before .loop .k
 
-  fallen : Near x next ((next + x / next) / 2)
-  fallen = record { some = n .some; above = next-above; most = omega arith; high = next-high; step = refl }
+  abbrev so-far : SoFar
+  so-far = c .before .loop .so-far
 
-returns : tie.Need-returns Inv-loop μ-loop
-returns c = is-root (record { low = omega arith; high = omega arith })
+  abbrev next : ℕ
+  next = getD (c .before .before .pairs-of .result) k 0
 
-div-next : tie.Need-div-next Inv-loop μ-loop
-div-next c = omega arith
+  after : AfterDigit (taken x k) so-far
+  after = c .before .loop .inv .1
 
-add-next : tie.Need-add-next Inv-loop μ-loop
-add-next c = omega arith
+  more : k < pairs
+  more = omega arith
+
+  next-is : next ≡ pair x k
+  next-is = c .before .before .pairs-of .ensures k more
+
+  taken-next : 100 * digits-of so-far + next ≡ taken x (k + 1)
+  taken-next = rw (after .left-over, next-is) (sym (pair-by-pair x .next k more))
+
+pairs-of-requires : tie.Need-pairs-of-requires Inv-loop μ-loop
+pairs-of-requires c κs = tt
 
 loop-holds : tie.Need-loop-holds Inv-loop μ-loop
-loop-holds c = record { some = omega arith; above = omega arith; most = omega arith; high = omega arith; step = refl }
+loop-holds c =
+    let none = pair-by-pair (c .before .args .x) .none-yet (omega arith) in
+    (omega arith, rw none (record { root-so-far = between 0 0 (omega arith) (omega arith); left-over = refl }))
 
-div-next-2 : tie.Need-div-next-2 Inv-loop μ-loop
-div-next-2 c = next-above (c .before .loop .inv) (c .loop-test .taken)
+mul-next-digit : tie.Need-mul-next-digit Inv-loop μ-loop
+mul-next-digit c = omega arith
 
-add-next-2 : tie.Need-add-next-2 Inv-loop μ-loop
-add-next-2 c =
-    let n = fallen (c .before .loop .inv) (c .loop-test .taken) in
-    omega (arith, n .most, step-small (c .before .before .before .args .x) (c .before .loop .next) (n .above) (n .high))
+array-read-next-digit : tie.Need-array-read-next-digit Inv-loop μ-loop
+array-read-next-digit c = omega arith
+
+next-digit-requires : tie.Need-next-digit-requires Inv-loop μ-loop
+next-digit-requires c κs =
+    (rw (after c .left-over) (after c), rw (next-is c) (pair-most (x c) (k c)), omega (arith, taken-next c, taken-most (x c) (k c + 1)))
+
+add-k : tie.Need-add-k Inv-loop μ-loop
+add-k c = omega arith
 
 loop-less : tie.Need-loop-less Inv-loop μ-loop
 loop-less c = omega arith
 
 loop-again : tie.Need-loop-again Inv-loop μ-loop
-loop-again c = fallen (c .before .loop .inv) (c .loop-test .taken)
+loop-again c = (omega arith, rw (taken-next (c .before)) at (c .next-digit .ensures))
 
-returns-2 : tie.Need-returns-2 Inv-loop μ-loop
-returns-2 c =
-    let n = c .before .loop .inv in
+returns : tie.Need-returns Inv-loop μ-loop
+returns c =
     let x = c .before .before .before .args .x in
-    let r = c .before .loop .r in
-    let stop : r ≤ (r + x / r) / 2 = omega (arith, n .step) in
-    is-root (record { low = stop-low x r (n .above) stop; high = n .high })
+    let all : c .before .loop .k ≡ pairs = omega arith in
+    last-is-root x (c .before .loop .so-far) (rw all at (c .before .loop .inv .1))
 
 pub root-spec : {M : Type 1} → statement M
-root-spec = tie.close (tie.spec Inv-loop μ-loop returns div-next add-next loop-holds div-next-2 add-next-2 loop-less loop-again returns-2)
+root-spec =
+    tie.close
+    (tie.spec Inv-loop μ-loop pairs-of-requires loop-holds mul-next-digit array-read-next-digit next-digit-requires add-k loop-less loop-again returns)
