@@ -13,7 +13,7 @@ greatest x (suc n) = cond (leb (suc n * suc n) x) (suc n) (greatest x n)
 unfoldable pub root : ℕ → ℕ
 root x = greatest x x
 
--- r is the greatest whole number of which f is not above x
+-- r is the greatest whole number n for which f n is not above x
 pub record Greatest (f : ℕ → ℕ) (x r : ℕ) : Type 0 where
   pub not-above : f r ≤ x
   pub none-greater : (n : ℕ) → f n ≤ x → n ≤ r
