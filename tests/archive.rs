@@ -66,6 +66,9 @@ pub struct Air {
 pub const MINUTES: usize = 1440;
 pub const THRESHOLD: i64 = -83_330_000;
 
+// The elevation at and above which refraction is worked.
+pub const LOWEST_REFRACTED: i64 = -83_337_000;
+
 pub const NO_AIR: Air = Air { kind: 0, pressure: 0.0, temperature: 0.0 };
 
 pub const POISON: i64 = 0x5a5a_5a5a_5a5a_5a5a;
