@@ -1,15 +1,10 @@
-// Through the horizon, by the archive: where refraction begins (02, Item 3), that nothing jumps above that limit, and that minute by minute a body which rises is never
-// shown to fall, nor one that sets to rise.
+// Through the horizon, by the archive: where refraction begins (02, Item 3), that it is the report's there too, that nothing jumps above that limit, and that minute by minute a
+// body which rises is never shown to fall, nor one that sets to rise.
 mod archive;
 use archive::*;
 
-const STANDARD: Air = Air { kind: 1, ..NO_AIR };
 const BOULDER: Air = measured(820.0, 11.0);
 const DENSEST: Air = measured(1200.0, -80.0);
-
-const fn measured(pressure: f64, temperature: f64) -> Air {
-    Air { kind: 2, pressure, temperature }
-}
 
 fn degrees_of(bits: i64) -> f64 {
     f64::from_bits(bits as u64)
@@ -34,7 +29,7 @@ fn limit() {
     }
 }
 
-// One unit of a sine is worth up to four units of refraction in the densest air, so that one to four units more of elevation may be shown as less, by three units at most.
+// One unit of a sine is worth up to four units of refraction in the densest air, so that one to four units more of elevation may be shown as less, by 3.03 units at most.
 // Five units more never are, nor as more than six: nothing jumps. Every 29th elevation up to a degree.
 fn steps() -> usize {
     const STEP: i64 = 5;
@@ -47,6 +42,23 @@ fn steps() -> usize {
         count += 1;
     }
     count
+}
+
+// The report's own formula (004, equation 42), by the tangent and in degrees.
+fn by_tangent(elevation: i64, air: Air) -> f64 {
+    let degrees = elevation as f64 / 1e8;
+    let raised = degrees + 10.3 / (degrees + 5.11);
+    (air.pressure / 1010.0) * (283.0 / (273.0 + air.temperature)) * 1.02 / (60.0 * raised.to_radians().tan())
+}
+
+// The rule, with its whole sines, is near it from the limit to the zenith.
+fn report() {
+    for air in [BOULDER, DENSEST] {
+        for elevation in (LOWEST_REFRACTED..=9_000_000_000).step_by(12_345) {
+            let apart = raised(elevation, air) - by_tangent(elevation, air);
+            assert!(apart.abs() < 1e-7, "{elevation} {air:?}: {apart} degree");
+        }
+    }
 }
 
 // ---- minute by minute
@@ -62,7 +74,7 @@ const DATES: [[i64; 5]; 7] = [
     [2100, 12, 31, 9, 2_000],
 ];
 
-// Longitude, latitude and height: Boulder, Quito, Dunedin, Tromsø, and as far north and as low, as far south and as high as there is much of a rise.
+// Longitude, latitude and height: Boulder, Quito, Dunedin, Tromsø, and near either pole, as low and as high as there is.
 const POINTS: [[i64; 3]; 6] = [
     [-1_051_786_000, 397_424_760, 1830],
     [-784_678_000, -1_807_000, 2850],
@@ -72,44 +84,59 @@ const POINTS: [[i64; 3]; 6] = [
     [900_000_000, -870_000_000, 9000],
 ];
 
-// Elevations without refraction and as shown, in degrees.
-fn elevations_at(date: &[i64; 5], minute: usize, body: u32, point: &[i64; 3], air: Air) -> (i64, f64) {
-    let [year, month, day, ut1, delta_t] = *date;
-    let [longitude, latitude, height] = *point;
-    let clock = [minute as i64 / 60, minute as i64 % 60];
-    let request = [year, month, day, clock[0], clock[1], 0, 0, ut1, delta_t, longitude, latitude, height];
-    let (refusal, [_, elevation]) = place(&request, body, air);
-    let (refused, [_, shown, _]) = shown_place(&request, body, air);
-    assert_eq!((refusal, refused), (0, 0), "{request:?}");
-    (elevation, degrees_of(shown))
+const AIRS: [Air; 4] = [NO_AIR, STANDARD, BOULDER, DENSEST];
+
+// A body on a date over a point.
+#[derive(Clone, Copy, Debug)]
+struct View {
+    date: [i64; 5],
+    point: [i64; 3],
+    body: u32,
 }
 
-// The minutes from a quarter of an hour before to a quarter after, pair by pair. Gives how many pairs lie above the limit.
-fn through(date: &[i64; 5], around: usize, body: u32, point: &[i64; 3], air: Air) -> usize {
-    let minutes = around.saturating_sub(15)..=(around + 15).min(MINUTES - 1);
-    let seen: Vec<(i64, f64)> = minutes.map(|minute| elevations_at(date, minute, body, point, air)).collect();
-    for pair in seen.windows(2) {
-        let [(before, shown_before), (after, shown_after)] = [pair[0], pair[1]];
-        let is_kept = if before <= after { shown_before <= shown_after } else { shown_before >= shown_after };
-        assert!(is_kept, "{date:?} {point:?} {body} {air:?}, around minute {around}: {pair:?}");
+impl View {
+    // The minutes at which the body rises and sets.
+    fn crossings(&self) -> Vec<usize> {
+        let ([year, month, day_of_month, ut1, delta_t], [longitude, latitude, height]) = (self.date, self.point);
+        let (refusal, found) = day(&[year, month, day_of_month, ut1, delta_t, longitude, latitude, height], self.body);
+        assert_eq!(refusal, 0, "{self:?}");
+        let [rises, rise, sets, set] = found.rise_set;
+        [(rises, rise), (sets, set)].into_iter().filter(|(has, _)| *has == 1).map(|(_, minute)| minute as usize).collect()
     }
-    seen.windows(2).filter(|pair| pair[0].0.min(pair[1].0) >= LOWEST_REFRACTED).count()
+
+    // The elevation without refraction, and as it is shown, in degrees.
+    fn elevations(&self, minute: usize, air: Air) -> (i64, f64) {
+        let ([year, month, day, ut1, delta_t], [longitude, latitude, height]) = (self.date, self.point);
+        let (hour, minute) = (minute as i64 / 60, minute as i64 % 60);
+        let request = [year, month, day, hour, minute, 0, 0, ut1, delta_t, longitude, latitude, height];
+        let (refusal, [_, elevation]) = place(&request, self.body, air);
+        let (shown_refusal, [_, shown, _]) = shown_place(&request, self.body, air);
+        assert_eq!((refusal, shown_refusal), (0, 0), "{request:?}");
+        (elevation, degrees_of(shown))
+    }
+
+    // From a quarter of an hour before to a quarter after, minute by minute. Gives how many pairs of neighbours lie above the limit.
+    fn through(&self, around: usize, air: Air) -> usize {
+        let minutes = around.saturating_sub(15)..=(around + 15).min(MINUTES - 1);
+        let seen: Vec<(i64, f64)> = minutes.map(|minute| self.elevations(minute, air)).collect();
+        for pair in seen.windows(2) {
+            let [(before, shown_before), (after, shown_after)] = [pair[0], pair[1]];
+            let is_kept = if before <= after { shown_before <= shown_after } else { shown_before >= shown_after };
+            assert!(is_kept, "{self:?} {air:?}, around minute {around}: {pair:?}");
+        }
+        seen.windows(2).filter(|pair| pair.iter().all(|(elevation, _)| *elevation >= LOWEST_REFRACTED)).count()
+    }
 }
 
-// Risings and settings, and the pairs of minutes above the limit.
+// How many risings and settings there are, and how many pairs of minutes above the limit.
 fn minutes() -> (usize, usize) {
     let (mut crossings, mut pairs) = (0, 0);
-    for date in &DATES {
-        for point in &POINTS {
-            for body in [SUN, MOON] {
-                let request = [date[0], date[1], date[2], date[3], date[4], point[0], point[1], point[2]];
-                let (refusal, found) = day(&request, body);
-                assert_eq!(refusal, 0, "{request:?}");
-                let [rises, rise, sets, set] = found.rise_set;
-                for minute in [(rises, rise), (sets, set)].into_iter().filter(|(has, _)| *has == 1).map(|(_, minute)| minute as usize) {
-                    crossings += 1;
-                    pairs += [NO_AIR, STANDARD, BOULDER, DENSEST].map(|air| through(date, minute, body, point, air)).iter().sum::<usize>();
-                }
+    for date in DATES {
+        for (point, body) in POINTS.into_iter().flat_map(|point| [(point, SUN), (point, MOON)]) {
+            let view = View { date, point, body };
+            for minute in view.crossings() {
+                crossings += 1;
+                pairs += AIRS.map(|air| view.through(minute, air)).iter().sum::<usize>();
             }
         }
     }
@@ -118,6 +145,7 @@ fn minutes() -> (usize, usize) {
 
 fn main() {
     limit();
+    report();
     let steps = steps();
     let (crossings, pairs) = minutes();
     assert_eq!((crossings, pairs), (92, 5344));

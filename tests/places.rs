@@ -8,8 +8,6 @@ use archive::*;
 // The kinds of lines that run here, with how many the three files have.
 const KINDS: [(&str, usize); 5] = [("sun", 231), ("moon", 252), ("batch", 6), ("middle", 240), ("refr", 285)];
 
-const STANDARD: Air = Air { kind: 1, ..NO_AIR };
-
 // A request that nothing refuses: the nine numbers of a start and the three of a point.
 const GOOD: [i64; 12] = [2024, 2, 29, 12, 30, 15, 5, -3, 692, 1_122_334_455, -455_443_322, 120];
 
@@ -19,10 +17,6 @@ const REFUSALS: [u32; 12] = [1, 2, 3, 4, 4, 4, 4, 5, 6, 7, 8, 9];
 // The cells of the buffers before a batch.
 const AZIMUTH_BEFORE: i64 = -7;
 const ELEVATION_BEFORE: i64 = -8;
-
-fn measured(pressure: f64, temperature: f64) -> Air {
-    Air { kind: 2, pressure, temperature }
-}
 
 // ---- the vectors
 
