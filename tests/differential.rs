@@ -426,12 +426,12 @@ fn main() {
         refraction_of(&mut random, asked.air, &mut seen);
         middle_of(&mut random, &mut seen);
         leaves(&mut random);
+        if turn % 16 == 0 {
+            limit_of(&mut random, &asked, &mut seen);
+        }
         if turn % 4 == 0 {
             batch_of(&mut random, &mut asked, &mut seen);
             sums_at(&mut random, &mut seen);
-        }
-        if turn % 16 == 0 {
-            limit_of(&mut random, &asked, &mut seen);
         }
         if turn % 8 == 0 {
             day_of(random_days::damaged(&mut random), &mut seen);
