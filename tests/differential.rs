@@ -227,7 +227,7 @@ fn place_of(asked: &Request, seen: &mut Seen) {
     same("shown place", asked, shown_place(&asked.numbers, asked.body, asked.air), answer(doubles), &mut seen.places);
 }
 
-// The place where refraction begins: of two longitudes that lie on both sides of the limit, the two neighbours between them that do, where the elevation changes by at most
+// The place where refraction begins: of two longitudes that lie on both sides of the limit, the two neighbours between them that do, where the elevation changes by some
 // ten units. Nothing where the request is refused, or the body is on one side of the limit from both.
 fn limit_of(random: &mut Random, asked: &Request, seen: &mut Seen) {
     let (start, body, point) = (asked.reference_start(), asked.reference_body(), asked.reference_point());
