@@ -32,9 +32,9 @@ extern "C" {
 #endif
 
 /* The version of this header and of the archive beside it. The first number changes when old code must not compile. */
-#define RADDLEHUE_VERSION "2.1.0"
+#define RADDLEHUE_VERSION "2.2.0"
 #define RADDLEHUE_VERSION_MAJOR 2
-#define RADDLEHUE_VERSION_MINOR 1
+#define RADDLEHUE_VERSION_MINOR 2
 #define RADDLEHUE_VERSION_PATCH 0
 
 /* Units of time to a second, and units of angle to a degree. */
@@ -162,10 +162,14 @@ RADDLEHUE_INLINE raddlehue_place_answer_t raddlehue_place_of(
 
 /* ---- the place as it is shown */
 
+/* At and above this elevation without refraction, in 1e-8 degree, refraction is worked, for both bodies: -0.83337 degree, the Sun's radius and the usual refraction
+ * at the horizon. Below it a body is shown where it stands. Where a body rises and sets is another number, RADDLEHUE_RISE_SET_E8. */
+#define RADDLEHUE_LOWEST_REFRACTED_E8 (-83337000)
+
 typedef struct {
     double azimuth_degrees;    /* from north over east, from 0 up to but not 360 */
     double elevation_degrees;  /* with the refraction in it */
-    double refraction_degrees; /* slightly below zero near the zenith, by the report's formula; 0 below the horizon and without air */
+    double refraction_degrees; /* slightly below zero near the zenith, by the report's formula; 0 below RADDLEHUE_LOWEST_REFRACTED_E8 and without air */
 } raddlehue_shown_place_t;
 
 /* Refused: 101, 102, then 1 to 11. */
@@ -304,7 +308,8 @@ RADDLEHUE_INLINE raddlehue_middle_answer_t raddlehue_middle_of(int64_t a_e8, int
 
 /* ---- refraction */
 
-/* How much the air raises a body whose elevation without refraction is given, within 9,000,000,000. Refused: 102, 103, then 10 and 11. */
+/* How much the air raises a body whose elevation without refraction is given, within 9,000,000,000: 0 below RADDLEHUE_LOWEST_REFRACTED_E8, as in a shown place.
+ * Refused: 102, 103, then 10 and 11. */
 uint32_t raddlehue_refraction(
     int64_t elevation_e8, uint32_t air, double pressure_mbar, double temperature_celsius, double *refraction_degrees);
 

@@ -305,7 +305,8 @@ void run_random(uint32_t count, uint64_t s) {
         random_day(n, code(2), i % 50 == 0);
         x = field(-1, 36000000000), y = below(4) ? field(-1, 36000000000) : x + 18000000000;
         show_middle(x, y);
-        show_refraction(below(2) ? mostly(-9000000000, 9000000000) : field(-100, 200000000), air);
+        show_refraction(below(2) ? mostly(-9000000000, 9000000000) : field(RADDLEHUE_LOWEST_REFRACTED_E8 - 1, 200000000), air);
+        show_refraction(field(RADDLEHUE_LOWEST_REFRACTED_E8 - 2, RADDLEHUE_LOWEST_REFRACTED_E8 + 2), air);
         /* one draw to a statement: C does not say in which order arguments are worked out */
         n[0] = mostly(1900, 2100), n[1] = mostly(1, 12), n[2] = mostly(1, 31);
         show_day_count(n[0], n[1], n[2]);

@@ -66,7 +66,15 @@ pub struct Air {
 pub const MINUTES: usize = 1440;
 pub const THRESHOLD: i64 = -83_330_000;
 
+// The elevation at and above which refraction is worked.
+pub const LOWEST_REFRACTED: i64 = -83_337_000;
+
 pub const NO_AIR: Air = Air { kind: 0, pressure: 0.0, temperature: 0.0 };
+pub const STANDARD: Air = Air { kind: 1, ..NO_AIR };
+
+pub const fn measured(pressure: f64, temperature: f64) -> Air {
+    Air { kind: 2, pressure, temperature }
+}
 
 pub const POISON: i64 = 0x5a5a_5a5a_5a5a_5a5a;
 

@@ -2,7 +2,8 @@
 //
 //     differential COUNT [SEED]
 //
-// COUNT requests for a place, each asked for plainly and as shown, and with them instants, batches, middles, refractions, the leaves and the sums at an instant; of
+// COUNT requests for a place, each asked for plainly and as shown, and with them instants, batches, middles, refractions (many of them at the limit below which there is
+// none), the leaves and the sums at an instant; for every sixteenth a place is moved east or west to where the body stands at that limit, and asked for on both sides; of
 // whole days, which are 1,440 places each, one for every 200 requests, and damaged ones, which cost nothing, for every eighth.
 // A refused call writes nothing: its memory stays poisoned. The first mismatch ends the run with the request that gave it, and so does a refusal that no request
 // of the run was given (in a run of some thousands all are).
@@ -18,6 +19,7 @@ use archive::*;
 
 const FULL_TURN: i64 = 36_000_000_000;
 const QUARTER_TURN: i64 = 9_000_000_000;
+const DEGREE: i64 = 100_000_000;
 
 // The furthest instant that the sums answer.
 const FURTHEST: i64 = 31_904_733_600;
@@ -199,6 +201,8 @@ struct Seen {
     refractions: [u64; 256],
     sums: [u64; 256],
     days: [u64; 256],
+    // of the places next to the limit of refraction, those below it and those that are not
+    limits: [u64; 2],
     // of the accepted days, those without a rise, without a set, and with one of them at minute 0
     crossings: [u64; 3],
 }
@@ -221,6 +225,35 @@ fn place_of(asked: &Request, seen: &mut Seen) {
     let shown = known.and_then(|()| reference::shown_place(start, body, point, air).map_err(u32::from));
     let doubles = shown.map(|shown| [shown.azimuth, shown.elevation, shown.refraction].map(|x| x.to_bits() as i64));
     same("shown place", asked, shown_place(&asked.numbers, asked.body, asked.air), answer(doubles), &mut seen.places);
+}
+
+// The place where refraction begins: of two longitudes that lie on both sides of the limit, the two neighbours between them that do, where the elevation changes by some
+// ten units. Nothing where the request is refused, or the body is on one side of the limit from both.
+fn limit_of(random: &mut Random, asked: &Request, seen: &mut Seen) {
+    let (start, body, point) = (asked.reference_start(), asked.reference_body(), asked.reference_point());
+    let is_refracted = |longitude| {
+        let found = reference::place(start, body, reference::Point { longitude, ..point }, reference::Air::None);
+        found.map(|place| place.elevation >= LOWEST_REFRACTED)
+    };
+    let [mut on_one, mut on_other] = [0; 2].map(|_| random.field(FIELDS[9].0, FIELDS[9].1));
+    let Ok(side) = is_refracted(on_one) else { return };
+    if is_refracted(on_other) == Ok(side) {
+        return;
+    }
+    while (on_one - on_other).abs() > 1 {
+        let between = (on_one + on_other) / 2;
+        if is_refracted(between) == Ok(side) {
+            on_one = between;
+        } else {
+            on_other = between;
+        }
+    }
+    for longitude in [on_one, on_other] {
+        let mut beside = *asked;
+        beside.numbers[9] = longitude;
+        place_of(&beside, seen);
+        seen.limits[usize::from(is_refracted(longitude) == Ok(true))] += 1;
+    }
 }
 
 // UT is UTC with UT1 minus UTC added, TT is UT with delta-T added, both from noon.
@@ -313,6 +346,8 @@ fn middle_of(random: &mut Random, seen: &mut Seen) {
 fn refraction_of(random: &mut Random, air: Air, seen: &mut Seen) {
     let elevation = match random.below(16) {
         0 => random.outside(-QUARTER_TURN, QUARTER_TURN),
+        1..4 => LOWEST_REFRACTED + random.between(-3, 3),
+        4..8 => random.between(-2 * DEGREE, 2 * DEGREE),
         _ => random.field(-QUARTER_TURN, QUARTER_TURN),
     };
     let within = if (-QUARTER_TURN..=QUARTER_TURN).contains(&elevation) { Ok(()) } else { Err(103) };
@@ -382,7 +417,7 @@ fn main() {
     let mut random = Random(numbers.get(1).copied().unwrap_or(1));
     let none = [0; 256];
     let mut seen =
-        Seen { places: none, instants: none, batches: none, middles: none, refractions: none, sums: none, days: none, crossings: [0; 3] };
+        Seen { places: none, instants: none, batches: none, middles: none, refractions: none, sums: none, days: none, limits: [0; 2], crossings: [0; 3] };
     for turn in 0..count {
         let mut asked = request(&mut random);
         place_of(&asked, &mut seen);
@@ -391,6 +426,9 @@ fn main() {
         refraction_of(&mut random, asked.air, &mut seen);
         middle_of(&mut random, &mut seen);
         leaves(&mut random);
+        if turn % 16 == 0 {
+            limit_of(&mut random, &asked, &mut seen);
+        }
         if turn % 4 == 0 {
             batch_of(&mut random, &mut asked, &mut seen);
             sums_at(&mut random, &mut seen);
@@ -402,12 +440,17 @@ fn main() {
             day_of(random_days::accepted(&mut random), &mut seen);
         }
     }
+    if seen.limits.contains(&0) {
+        eprintln!("differential: places of this run next to the limit of refraction, below it and not: {:?}", seen.limits);
+        exit(1);
+    }
     let drawn = [
         complete("places", &seen.places, (1..=11).chain([101, 102])),
         complete("instants and dates", &seen.instants, 1..=6),
         complete("batches", &seen.batches, (1..=9).chain([12, 13, 101])),
         complete("middles", &seen.middles, [14, 15]),
         complete("refractions", &seen.refractions, [10, 11, 102, 103]),
+        format!("    places next to the limit of refraction, below it {}, not below it {}", seen.limits[0], seen.limits[1]),
         complete("sums", &seen.sums, [104]),
         complete("days", &seen.days, [1, 2, 3, 5, 6, 7, 8, 9, 101]),
         format!("    days without a rise {}, without a set {}, with one at minute 0 {}", seen.crossings[0], seen.crossings[1], seen.crossings[2]),

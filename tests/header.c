@@ -52,7 +52,7 @@ static int constants(void)
     sprintf(version, "%d.%d.%d", RADDLEHUE_VERSION_MAJOR, RADDLEHUE_VERSION_MINOR, RADDLEHUE_VERSION_PATCH);
     CHECK(strcmp(version, RADDLEHUE_VERSION) == 0);
     CHECK(RADDLEHUE_SECOND == 10 && RADDLEHUE_DEGREE_E7 == 10000000 && RADDLEHUE_DEGREE_E8 == 100000000);
-    CHECK(RADDLEHUE_DAY_MINUTES == 1440 && RADDLEHUE_RISE_SET_E8 == -83330000);
+    CHECK(RADDLEHUE_DAY_MINUTES == 1440 && RADDLEHUE_RISE_SET_E8 == -83330000 && RADDLEHUE_LOWEST_REFRACTED_E8 == -83337000);
     CHECK(RADDLEHUE_SUN == 0 && RADDLEHUE_MOON == 1);
     CHECK(RADDLEHUE_AIR_NONE == 0 && RADDLEHUE_AIR_STANDARD == 1 && RADDLEHUE_AIR_MEASURED == 2);
     return 0;
@@ -343,6 +343,10 @@ static int refraction(void)
     CHECK(bits(degrees) == 0x3fdee9ff9526e05e);
     answer = raddlehue_refraction_of(8999200393, standard);
     CHECK(answer.refusal == RADDLEHUE_ACCEPTED && bits(answer.refraction_degrees) == 0xbeff353c0509cad5);
+    answer = raddlehue_refraction_of(RADDLEHUE_LOWEST_REFRACTED_E8, standard);
+    CHECK(answer.refusal == RADDLEHUE_ACCEPTED && bits(answer.refraction_degrees) == 0x3fe3c8b013d371f2);
+    answer = raddlehue_refraction_of(RADDLEHUE_LOWEST_REFRACTED_E8 - 1, standard);
+    CHECK(answer.refusal == RADDLEHUE_ACCEPTED && bits(answer.refraction_degrees) == 0);
     answer = raddlehue_refraction_of(0, hot);
     CHECK(answer.refusal == RADDLEHUE_TEMPERATURE && answer.refraction_degrees == 0.0);
     return 0;

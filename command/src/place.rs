@@ -1,10 +1,11 @@
 //! `raddlehue place`: one body at one moment.
 
+use crate::decimal;
 use crate::delta_t::Scales;
 use crate::failure::{quoted, Failure};
 use crate::format::{self, angle, angle_of_double, format_help, Format};
 use crate::observer::{self, observer_help, scales_words, Observer};
-use crate::sky::{self, Body, Place, Shown, View};
+use crate::sky::{self, Body, Place, Shown, View, ANGLE_DECIMALS, LOWEST_REFRACTED_E8};
 use crate::time::{Moment, UTC};
 use crate::words::{Command, Words};
 
@@ -18,7 +19,8 @@ pub const COMMAND: Command = Command {
 
 Azimuth and elevation of the Sun or the Moon at a moment: without refraction,
 or, where the air's pressure and temperature are given, as it is shown, with
-refraction. TIME is like 2026-11-15T19:30:30.5Z or 2026-11-16T08:30+13:00.
+refraction, which is worked from -0.83337 degrees up, where the last rim of
+the Sun sets. TIME is like 2026-11-15T19:30:30.5Z or 2026-11-16T08:30+13:00.
 
 ",
         observer_help!(),
@@ -113,15 +115,25 @@ fn text(answer: &Answer, observer: Observer) -> String {
         }
         Some((air, shown)) => {
             text += &format!(
-            "elevation {} degrees above the horizon, with refraction\nrefraction {} degrees at {} mbar and {} degrees Celsius\n",
-            angle_of_double(shown.elevation_degrees),
-            angle_of_double(shown.refraction_degrees),
-            air.pressure.0,
-            air.temperature.0
-        )
+                "elevation {} degrees above the horizon, with refraction\n\
+                 refraction {} degrees at {} mbar and {} degrees Celsius{}\n",
+                angle_of_double(shown.elevation_degrees),
+                angle_of_double(shown.refraction_degrees),
+                air.pressure.0,
+                air.temperature.0,
+                why_none(answer.place)
+            )
         }
     }
     text
+}
+
+/// Why an air that is given raises nothing, where it does not.
+fn why_none(place: Place) -> String {
+    if place.elevation_e8 >= LOWEST_REFRACTED_E8 {
+        return String::new();
+    }
+    format!(", since there is none below {} degrees", decimal::short(LOWEST_REFRACTED_E8, ANGLE_DECIMALS))
 }
 
 fn json(answer: &Answer) -> String {

@@ -4,7 +4,7 @@ use crate::failure::Failure;
 use crate::time::{Clock, Moment};
 use raddlehue::{Air, Date, Point, Refusal, Start};
 
-pub use raddlehue::{Body, Place, RiseSet, Shown, DAY_MINUTES, RISE_SET_E8};
+pub use raddlehue::{Body, Place, RiseSet, Shown, DAY_MINUTES, LOWEST_REFRACTED_E8, RISE_SET_E8};
 
 /// Decimals of the library's angles, of a point's degrees and of a second.
 pub const ANGLE_DECIMALS: u32 = 8;

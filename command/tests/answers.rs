@@ -46,6 +46,22 @@ fn the_published_example() {
     assert!(zoned.contains("(2003-10-17T19:30:30Z)") && zoned.contains("194.34024073"), "{zoned}");
 }
 
+// Its centre is already below the horizon, and it is still shown above; then its last rim has set, and there is no refraction.
+#[test]
+fn the_last_rim_of_the_sun() {
+    let air = ["--pressure", "820", "--temperature", "11"];
+    let at = |time, air: &[&str]| answer(&[&["place", "sun", time], &BOULDER[..], air].concat(), "");
+    let plain = at("2003-10-17T00:18Z", &[]);
+    assert!(plain.contains("elevation -0.39795751 degrees above the horizon, without refraction\n"), "{plain}");
+    let shown = at("2003-10-17T00:18Z", &air);
+    assert!(shown.contains("elevation 0.04263830 degrees above the horizon, with refraction\n"), "{shown}");
+    assert!(shown.contains("refraction 0.44059581 degrees at 820 mbar and 11 degrees Celsius\n"), "{shown}");
+    let set = at("2003-10-17T00:21Z", &air);
+    assert!(set.contains("elevation -0.96425897 degrees above the horizon, with refraction\n"), "{set}");
+    let none = "refraction 0.00000000 degrees at 820 mbar and 11 degrees Celsius, since there is none below -0.83337 degrees\n";
+    assert!(set.contains(none), "{set}");
+}
+
 // 004 has 13:12:43 and 00:20:19 UT, the set being that of the day before in Boulder.
 #[test]
 fn the_published_sunrise() {

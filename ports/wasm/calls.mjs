@@ -23,6 +23,8 @@ const shown = sky.shown_place(start, SUN, point, measured(820, 11));
 assert.ok(shown.refusal === 0 && shown.refraction_degrees > 0 && Math.abs(shown.azimuth_degrees - Number(azimuth_e8) / 1e8) < 1e-12);
 assert.deepEqual(sky.shown_place(start, SUN, point, AIR_STANDARD), sky.shown_place(start, SUN, point, measured(1010, 10)));
 assert.equal(sky.shown_place(start, SUN, point, AIR_NONE).refraction_degrees, 0);
+assert.ok(sky.refraction(-83337000, AIR_STANDARD).refraction_degrees > 0.6);
+assert.deepEqual(sky.refraction(-83337001, AIR_STANDARD), { refusal: 0, refraction_degrees: 0 });
 assert.deepEqual(sky.place({ ...start, year: 2101n }, SUN, point), { refusal: 1 });
 assert.deepEqual(sky.place(start, 2, point), { refusal: 101 });
 assert.deepEqual(sky.place(start, SUN, point, measured(NaN, 11)), { refusal: 10 });

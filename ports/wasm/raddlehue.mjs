@@ -19,7 +19,7 @@
  *                                              the first at which the body is at or above -0.8333 degree and was not the minute before, and the reverse; where there
  *                                              is none, as on a polar day, the name is missing. A date is { year, month, day, ut1_tenths, delta_t_tenths }
  *     middle(a_e8, b_e8)                       azimuth_e8
- *     refraction(elevation_e8, air)            refraction_degrees
+ *     refraction(elevation_e8, air)            refraction_degrees: 0 below -0.83337 degree, as in a shown place
  *     day_count(year, month, day)              days
  *     instant(start)                           ut_tenths, tt_tenths
  *     moon_sums(tt_tenths)                     longitude_e8, latitude_e8, distance_metres

@@ -215,6 +215,17 @@ fn no_pressure_no_refraction() {
 }
 
 #[test]
+fn refraction_begins_at_the_lowest_rim() {
+    for air in [Air::Standard, Air::Measured(1.0, 80.0), Air::Measured(1200.0, -80.0)] {
+        assert!(refraction(-83_337_000, air) > 0.0);
+        for below in [-83_337_001, -511_000_000, -9_000_000_000] {
+            assert_eq!(refraction(below, air).to_bits(), 0);
+        }
+    }
+    assert_eq!(refraction(-83_337_000, Air::None).to_bits(), 0);
+}
+
+#[test]
 fn a_batch_is_its_places() {
     let offsets = [0, 1, 599, 36_000, 864_000, 86_400_000, 30_681_000, 7];
     for body in [Body::Sun, Body::Moon] {

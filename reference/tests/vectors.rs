@@ -15,10 +15,10 @@ fn read(name: &str) -> String {
     fs::read_to_string(path).expect("the vectors are in the repository")
 }
 
-/// Checks every line of a file, and gives the count of lines of each kind.
+/// Checks every line of a file but its comments, and gives the count of lines of each kind.
 fn check_file(name: &str) -> BTreeMap<String, usize> {
     let mut counts = BTreeMap::new();
-    for line in read(name).lines() {
+    for line in read(name).lines().filter(|line| !line.starts_with('#')) {
         let (kind, rest) = line.split_once(' ').expect("a kind, then its numbers");
         let (input, answer) = rest.split_once('|').expect("a question and an answer");
         match kind {
@@ -61,6 +61,11 @@ fn leaves() {
         ("sun", 4),
     ];
     assert_eq!(check_file("leaves.txt"), counted(&expected));
+}
+
+#[test]
+fn horizon() {
+    assert_eq!(check_file("horizon.txt"), counted(&[("moon", 125), ("refr", 45), ("sun", 112)]));
 }
 
 #[test]

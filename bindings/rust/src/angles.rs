@@ -19,16 +19,24 @@ pub fn middle(a_e8: i64, b_e8: i64) -> Result<i64, Refusal> {
     answer(|azimuth_e8| archive::raddlehue_middle(a_e8, b_e8, azimuth_e8))
 }
 
-/// How far the air lifts a body, in degrees, from its elevation in 10⁻⁸ degree from the horizon upward without refraction.
+/// At and above this elevation, in 10⁻⁸ degree without refraction, refraction is worked, for both bodies: -0.83337 degree, the Sun's radius and the usual
+/// refraction at the horizon.
+///
+/// Where a body rises and sets is another number, [`RISE_SET_E8`](crate::RISE_SET_E8).
+pub const LOWEST_REFRACTED_E8: i64 = -83_337_000;
+
+/// How far the air lifts a body, in degrees, from its elevation in 10⁻⁸ degree from the horizon upward without refraction: 0 below [`LOWEST_REFRACTED_E8`].
 ///
 /// # Errors
 /// [`NoElevation`](Refusal::NoElevation), 103, then [`Pressure`](Refusal::Pressure) and [`Temperature`](Refusal::Temperature), 10 and 11.
 ///
 /// ```
-/// use raddlehue::{refraction, Air, DEGREE_E8};
+/// use raddlehue::{refraction, Air, DEGREE_E8, LOWEST_REFRACTED_E8};
 ///
 /// assert_eq!(refraction(10 * DEGREE_E8, Air::None), Ok(0.0));
 /// assert!(refraction(10 * DEGREE_E8, Air::Standard)? > 0.08);
+/// assert!(refraction(LOWEST_REFRACTED_E8, Air::Standard)? > 0.6);
+/// assert_eq!(refraction(LOWEST_REFRACTED_E8 - 1, Air::Standard), Ok(0.0));
 /// # Ok::<(), raddlehue::Refusal>(())
 /// ```
 pub fn refraction(elevation_e8: i64, air: Air) -> Result<f64, Refusal> {

@@ -45,7 +45,7 @@ mod refusal;
 mod request;
 mod sums;
 
-pub use angles::{arctangent, cosine, middle, refraction, root, sine};
+pub use angles::{arctangent, cosine, middle, refraction, root, sine, LOWEST_REFRACTED_E8};
 pub use day::{day, rise_set, RiseSet, DAY_MINUTES, RISE_SET_E8};
 #[cfg(feature = "alloc")]
 pub use places::places;

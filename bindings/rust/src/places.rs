@@ -52,7 +52,7 @@ pub struct Shown {
     pub azimuth_degrees: f64,
     /// Degrees from the horizon upward, refraction included.
     pub elevation_degrees: f64,
-    /// Degrees by which the air lifts the body: 0 with no air and below the horizon, slightly below 0 near the zenith, by the report's formula.
+    /// Degrees by which the air lifts the body: 0 with no air and below [`LOWEST_REFRACTED_E8`](crate::LOWEST_REFRACTED_E8), slightly below 0 near the zenith, by the report's formula.
     pub refraction_degrees: f64,
 }
 

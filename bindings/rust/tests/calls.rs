@@ -257,7 +257,10 @@ fn middles() {
 
 #[test]
 fn refractions() {
-    assert_eq!(refraction(-1, Air::Standard), Ok(0.0));
+    for air in [Air::Standard, AIR] {
+        assert!(refraction(LOWEST_REFRACTED_E8, air).unwrap() > refraction(0, air).unwrap());
+        assert_eq!(refraction(LOWEST_REFRACTED_E8 - 1, air), Ok(0.0));
+    }
     assert_eq!(refraction(90 * DEGREE_E8 + 1, Air::None), Err(Refusal::NoElevation));
     assert_eq!(refraction(0, measured(1010.0, 80.5)), Err(Refusal::Temperature));
 }
@@ -371,6 +374,7 @@ fn constants_are_the_headers() {
         ("DEGREE_E8", DEGREE_E8),
         ("DAY_MINUTES", DAY_MINUTES as i64),
         ("RISE_SET_E8", RISE_SET_E8),
+        ("LOWEST_REFRACTED_E8", LOWEST_REFRACTED_E8),
     ] {
         // A number below zero stands in brackets.
         assert_eq!(defined(name).trim_matches(['(', ')']), number.to_string(), "{name}");

@@ -1,4 +1,5 @@
 -- The raised elevation lies from a quarter degree to less than 93 degrees, so its sine is above zero.
+-- Elevations of either sign go by one argument: q is d + ⌊103·10¹⁵/d⌋ - 511,000,000, with d = e + 511,000,000, which is 427,663,000 or more.
 use mathlib.Core.Bool.{Bool, cond, false, true}
 use mathlib.Core.Path.{_∙_, _≡_, ap, refl}
 use Prim.Native.Nat.{_%_, _*_, _+_, _-_, _/_, _<_, _≤_, ℕ}
@@ -6,10 +7,11 @@ use native.Mathlib.Decide.{decLt}
 use native.Mathlib.Nat.{div-lt-iff-lt-mul, le-div-iff-mul-le, mul-le-mul}
 use native.Mathlib.Omega.{arith}
 use lib.Dec.{leb, leb→le}
-use lib.IntN.{_+ℤ_, natAbs, negsuc, pos, ℤ}
+use lib.IntN.{_+ℤ_, natAbs, pos, ℤ}
 use lib.Ieee.{Float}
 use lib.Signed.{ltZ}
 use Rattle.arithmetic.specs.Floor.{⌊_÷_⌋}
+use Rattle.arithmetic.proofs.Difference.{#_, _⊞_, abs-parts, by-eq, dn, to-eq, to-le, up, ⟨_⟩}
 use Rattle.arithmetic.proofs.Table.{at-part}
 use Rattle.number_rules.specs.Angle.{quarter-turn}
 use Rattle.number_rules.specs.Sine.{entry, fold, quarter-sine, radians, rest-cosine, rest-sine, sine, sine-at}
@@ -22,24 +24,47 @@ use Rattle.refraction.specs.Refraction.{IsRefracted, lowest-refracted, r
 use Rattle.refraction.specs.declared.air.Air.{Air}
 
 -- e + 511,000,000 is above zero
-pub divisor : {e : ℤ} → IsRefracted e → (d : ℕ) × (e +ℤ pos 511_000_000 ≡ pos d) × (0 < d) × (d ≤ 9_511_000_000)
-divisor {e = pos n} h = (n + 511_000_000, refl, omega arith, omega (arith, h .size))
-divisor {e = negsuc n} h = absurd (h .not-below .le)
+pub divisor : {e : ℤ} → IsRefracted e → (d : ℕ) × (e +ℤ pos 511_000_000 ≡ pos d) × (427_663_000 ≤ d) × (d ≤ 9_511_000_000)
+divisor {e} h =
+    let low = to-le ⟨ lowest-refracted ⟩ ⟨ e ⟩ (h .not-below) in
+    let high = rw (abs-parts e) at (h .size) in
+    let d = up e + 511_000_000 - dn e in
+    (d, by-eq (⟨ e ⟩ ⊞ # 511_000_000) (# d) (omega (arith, low)), omega (arith, low), omega (arith, high))
 
 pub raised-range : {e : ℤ} → IsRefracted e → (q : ℕ) × (raised e ≡ pos q) × (25_000_000 ≤ q) × (q ≤ 9_300_000_000)
 unfolding raised ⌊_÷_⌋
-raised-range {e = negsuc n} h = absurd (h .not-below .le)
-raised-range {e = pos n} h = (n + lift, refl, least (decLt n 25_000_000), omega (arith, most, h .size))
+raised-range {e} h = (q, raised-is, omega (arith, least), omega (arith, most, high))
   where
+    d : ℕ
+    d = divisor h .0
+
+    low : 427_663_000 ≤ d
+    low = divisor h .2
+
+    high : d ≤ 9_511_000_000
+    high = divisor h .3
+
     lift : ℕ
-    lift = 103_000_000_000_000_000 / (n + 511_000_000)
+    lift = 103_000_000_000_000_000 / d
+
+    -- e is d - 511,000,000
+    q : ℕ
+    q = d + lift - 511_000_000
 
     most : lift < 300_000_000
-    most = div-lt-iff-lt-mul {k = n + 511_000_000} (omega arith) .1 (omega arith)
+    most = div-lt-iff-lt-mul {k = d} (omega (arith, low)) .1 (omega (arith, low))
 
-    least : Dec (n < 25_000_000) → 25_000_000 ≤ n + lift
-    least (yes l) = omega (arith, le-div-iff-mul-le {k = n + 511_000_000} {x = 25_000_000} {y = 103_000_000_000_000_000} (omega arith) .1 (omega arith))
-    least (no l) = omega arith
+    least : 536_000_000 ≤ d + lift
+    least = go (decLt d 536_000_000)
+      where
+        go : Dec (d < 536_000_000) → 536_000_000 ≤ d + lift
+        go (yes l) = omega (arith, low, le-div-iff-mul-le {k = d} {x = 110_000_000} {y = 103_000_000_000_000_000} (omega (arith, low)) .1 (omega arith))
+        go (no l) = omega arith
+
+    raised-is : raised e ≡ pos q
+    raised-is =
+        let sum = divisor h .1 in
+        rw sum (by-eq (⟨ e ⟩ ⊞ # lift) (# q) (omega (arith, least, to-eq (⟨ e ⟩ ⊞ # 511_000_000) (# d) sum)))
 
 -- ---- a sine above zero
 -- past its first entry the table has none below 2

@@ -1,8 +1,8 @@
--- Refraction (01, "Refraction"), in degrees.
+-- Refraction (01, "Refraction", as 02's Item 3 mends it), in degrees.
 use mathlib.Core.Bool.{cond, true}
 use mathlib.Core.Path.{_≡_}
 use Prim.Native.Nat.{_≤_}
-use lib.IntN.{_+ℤ_, natAbs, pos, ℤ}
+use lib.IntN.{_+ℤ_, natAbs, negℤ, pos, ℤ}
 use lib.Ieee.{Float}
 use lib.Signed.{_≤ℤ_, ltZ}
 use Rattle.arithmetic.specs.Floor.{⌊_÷_⌋}
@@ -15,9 +15,9 @@ use Rattle.calendar.specs.Refusal.{first}
 use Rattle.refraction.specs.declared.air.Air.{Air}
 use Rattle.refraction.specs.declared.air.Air.the-variants.{Measured, None, Standard}
 
--- zero if e is negative: below this elevation
+-- worked at and above -83,337,000 units, for both bodies, and zero below (02, Item 3; 01 had 0)
 abbrev pub lowest-refracted : ℤ
-lowest-refracted = pos 0
+lowest-refracted = negℤ (pos 83_337_000)
 
 pub record IsRefracted (e : ℤ) : Type 0 where
   pub not-below : lowest-refracted ≤ℤ e

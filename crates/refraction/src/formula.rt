@@ -13,8 +13,8 @@ ghost use Rattle.number_rules.specs.SineTable.{sines};
 ghost use Rattle.refraction.specs.Refraction.{IsRefracted, raised, formula, measured-refraction, refraction};
 ghost use Rattle.numbers.specs.SineCosine.{OneAngle};
 
-// Nothing is refracted below this elevation.
-const LOWEST_REFRACTED: i64 = 0;
+// Nothing is refracted below this elevation: the Sun's radius and the usual refraction at the horizon, 0.26667 + 0.5667 degree.
+const LOWEST_REFRACTED: i64 = -83_337_000;
 
 // The angle q whose cotangent the formula takes.
 fn raised(e: i64) -> i64

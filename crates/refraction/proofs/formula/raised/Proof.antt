@@ -27,7 +27,7 @@ cast-floor-div : tie.Need-cast-floor-div
 cast-floor-div c = to-nat (sum-is c) (omega (arith, divisor (c .pre) .3))
 
 floor-div-requires : tie.Need-floor-div-requires
-floor-div-requires c κs = subst⁻¹ (λ (z : ℤ). 0 < natAbs z) (sum-is c) (divisor (c .pre) .2)
+floor-div-requires c κs = subst⁻¹ (λ (z : ℤ). 0 < natAbs z) (sum-is c) (omega (arith, divisor (c .pre) .2))
 
 abbrev result : tie.After-floor-div → Mirror
 result c = e (c .before) ⊕ small-floor-gave (lit (pos 103_000_000_000_000_000)) (natAbs (sum (c .before) .machine)) (c .floor-div .ok) (c .floor-div .ensures)
