@@ -170,6 +170,12 @@ pub fn day(numbers: &[i64; 8], body: u32) -> Answer<Day> {
     (refusal, Day { elevations, rise_set })
 }
 
+// The twelve numbers of a place at a minute of such a day.
+pub fn at_minute(numbers: &[i64; 8], minute: usize) -> [i64; 12] {
+    let [year, month, day, ut1, delta_t, longitude, latitude, height] = *numbers;
+    [year, month, day, minute as i64 / 60, minute as i64 % 60, 0, 0, ut1, delta_t, longitude, latitude, height]
+}
+
 pub fn middle(a: i64, b: i64) -> Answer<i64> {
     lent(POISON, |at| unsafe { raddlehue_middle(a, b, at) })
 }

@@ -62,21 +62,19 @@ fn vectors(path: &str) {
 
 // ---- minutes asked for one by one
 
-// The elevation of a place at a minute of a date, with the corrections and the point of a day.
-fn elevation([year, month, day]: [i64; 3], minute: usize, numbers: &[i64; 8], body: u32) -> i64 {
-    let [_, _, _, ut1, delta_t, longitude, latitude, height] = *numbers;
-    let request = [year, month, day, minute as i64 / 60, minute as i64 % 60, 0, 0, ut1, delta_t, longitude, latitude, height];
+// The elevation of a place at a minute of a day.
+fn elevation(numbers: &[i64; 8], minute: usize, body: u32) -> i64 {
+    let request = at_minute(numbers, minute);
     let (refusal, place) = place(&request, body, NO_AIR);
     assert_eq!(refusal, 0, "{request:?}");
     place[1]
 }
 
 // The day before is given, since a calendar is another test's matter; the first of all has none.
-fn minutes(numbers: &[i64; 8], eve: Option<[i64; 3]>, body: u32) {
-    let date = *numbers.first_chunk().unwrap();
-    let curve: Vec<i64> = (0..MINUTES).map(|minute| elevation(date, minute, numbers, body)).collect();
+fn minutes(numbers: &[i64; 8], eve: Option<[i64; 8]>, body: u32) {
+    let curve: Vec<i64> = (0..MINUTES).map(|minute| elevation(numbers, minute, body)).collect();
     let is_up = |elevation: i64| elevation >= THRESHOLD;
-    let mut before = eve.map(|eve| is_up(elevation(eve, 1439, numbers, body)));
+    let mut before = eve.map(|eve| is_up(elevation(&eve, 1439, body)));
     let mut told = [0; 4];
     for (minute, now) in curve.iter().map(|elevation| is_up(*elevation)).enumerate() {
         let at = if now { 0 } else { 2 };
@@ -97,10 +95,10 @@ fn days() {
     };
     for body in [SUN, MOON] {
         minutes(&on([1900, 1, 1]), None, body);
-        minutes(&on([1900, 3, 1]), Some([1900, 2, 28]), body);
-        minutes(&on([2000, 3, 1]), Some([2000, 2, 29]), body);
-        minutes(&on([2001, 1, 1]), Some([2000, 12, 31]), body);
-        minutes(&on([2100, 12, 31]), Some([2100, 12, 30]), body);
+        minutes(&on([1900, 3, 1]), Some(on([1900, 2, 28])), body);
+        minutes(&on([2000, 3, 1]), Some(on([2000, 2, 29])), body);
+        minutes(&on([2001, 1, 1]), Some(on([2000, 12, 31])), body);
+        minutes(&on([2100, 12, 31]), Some(on([2100, 12, 30])), body);
     }
 }
 

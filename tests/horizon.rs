@@ -89,16 +89,14 @@ const AIRS: [Air; 4] = [NO_AIR, STANDARD, BOULDER, DENSEST];
 // A body on a date over a point.
 #[derive(Clone, Copy, Debug)]
 struct View {
-    date: [i64; 5],
-    point: [i64; 3],
+    numbers: [i64; 8],
     body: u32,
 }
 
 impl View {
     // The minutes at which the body rises and sets.
     fn crossings(&self) -> Vec<usize> {
-        let ([year, month, day_of_month, ut1, delta_t], [longitude, latitude, height]) = (self.date, self.point);
-        let (refusal, found) = day(&[year, month, day_of_month, ut1, delta_t, longitude, latitude, height], self.body);
+        let (refusal, found) = day(&self.numbers, self.body);
         assert_eq!(refusal, 0, "{self:?}");
         let [rises, rise, sets, set] = found.rise_set;
         [(rises, rise), (sets, set)].into_iter().filter(|(has, _)| *has == 1).map(|(_, minute)| minute as usize).collect()
@@ -106,9 +104,7 @@ impl View {
 
     // The elevation without refraction, and as it is shown, in degrees.
     fn elevations(&self, minute: usize, air: Air) -> (i64, f64) {
-        let ([year, month, day, ut1, delta_t], [longitude, latitude, height]) = (self.date, self.point);
-        let (hour, minute) = (minute as i64 / 60, minute as i64 % 60);
-        let request = [year, month, day, hour, minute, 0, 0, ut1, delta_t, longitude, latitude, height];
+        let request = at_minute(&self.numbers, minute);
         let (refusal, [_, elevation]) = place(&request, self.body, air);
         let (shown_refusal, [_, shown, _]) = shown_place(&request, self.body, air);
         assert_eq!((refusal, shown_refusal), (0, 0), "{request:?}");
@@ -131,9 +127,9 @@ impl View {
 // How many risings and settings there are, and how many pairs of minutes above the limit.
 fn minutes() -> (usize, usize) {
     let (mut crossings, mut pairs) = (0, 0);
-    for date in DATES {
-        for (point, body) in POINTS.into_iter().flat_map(|point| [(point, SUN), (point, MOON)]) {
-            let view = View { date, point, body };
+    for [year, month, day, ut1, delta_t] in DATES {
+        for ([longitude, latitude, height], body) in POINTS.into_iter().flat_map(|point| [(point, SUN), (point, MOON)]) {
+            let view = View { numbers: [year, month, day, ut1, delta_t, longitude, latitude, height], body };
             for minute in view.crossings() {
                 crossings += 1;
                 pairs += AIRS.map(|air| view.through(minute, air)).iter().sum::<usize>();
