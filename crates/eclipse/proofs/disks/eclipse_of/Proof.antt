@@ -48,7 +48,7 @@ module _ (c : tie.After-moon-radius) where
       (subst⁻¹ (λ (n : ℕ). Radii (sun-radius (start .args .sun)) n) rm-is (radii e (start .pre .0 .1 .0) (start .pre .0 .1 .1)))
 
   apart-most : parted .separation .result ≤ half-turn
-  apart-most = subst⁻¹ (λ (n : ℕ). n ≤ half-turn) (parted .separation .ensures) (separation-most (start .args .to-sun) (start .args .to-moon))
+  apart-most = subst⁻¹ (λ (n : ℕ). n ≤ half-turn) (parted .separation .ensures) (separation-most _ _)
 
 -- the share
 module _ (c : tie.After-share) where
