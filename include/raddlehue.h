@@ -5,9 +5,9 @@
  * through a pointer, and **writes nothing where it refuses**; and beside it an inline function whose name ends in _of, which takes structs and returns the answer
  * as a struct, with the refusal in it and zeros elsewhere (but for the index of 13).
  *
- * Names say their unit: _e7 and _e8 are 1e-7 and 1e-8 degree, _e10 is 1e-10, _tenths are tenths of a second. Azimuth counts from north over east (east is 90
- * degrees), longitude is east positive, latitude north positive, time is UTC in the Gregorian calendar and never a local zone, elevation counts from the
- * horizon upward.
+ * Names say their unit: _e7 and _e8 are 1e-7 and 1e-8 degree, _e10 is 1e-10, _tenths are tenths of a second, _millionths are of the Sun's disk. Azimuth counts from
+ * north over east (east is 90 degrees), longitude is east positive, latitude north positive, time is UTC in the Gregorian calendar and never a local zone, elevation
+ * counts from the horizon upward.
  *
  * What is asked of the caller: a pointer points to as many numbers as its type or its length says, aligned as C aligns them; memories that are written do not overlap
  * others of the same call; about 8 KiB of stack (docs/FIGURES.md has the exact numbers), and for a day 11.5 KB of the caller's own beside it, for the curve; and, for the
@@ -32,9 +32,9 @@ extern "C" {
 #endif
 
 /* The version of this header and of the archive beside it. The first number changes when old code must not compile. */
-#define RADDLEHUE_VERSION "2.2.0"
+#define RADDLEHUE_VERSION "2.3.0"
 #define RADDLEHUE_VERSION_MAJOR 2
-#define RADDLEHUE_VERSION_MINOR 2
+#define RADDLEHUE_VERSION_MINOR 3
 #define RADDLEHUE_VERSION_PATCH 0
 
 /* Units of time to a second, and units of angle to a degree. */
@@ -65,7 +65,8 @@ enum {
     RADDLEHUE_UNKNOWN_BODY = 101,
     RADDLEHUE_UNKNOWN_AIR = 102,
     RADDLEHUE_NO_ELEVATION = 103,
-    RADDLEHUE_OUT_OF_REACH = 104
+    RADDLEHUE_OUT_OF_REACH = 104,
+    RADDLEHUE_NO_DISKS = 105
 };
 
 /* A refusal in words; of a number that is none, that it is unknown. The text is constant and not to be freed. */
@@ -93,6 +94,7 @@ RADDLEHUE_INLINE const char *raddlehue_refusal_text(uint32_t refusal)
     case RADDLEHUE_UNKNOWN_AIR: return "the air is none of none, standard and measured";
     case RADDLEHUE_NO_ELEVATION: return "the elevation is not within 90 degrees";
     case RADDLEHUE_OUT_OF_REACH: return "the instant is not within 31,904,733,600 tenths of a second of 2000-01-01 12:00";
+    case RADDLEHUE_NO_DISKS: return "the separation is not 0 to 180 degrees, the Sun's radius not 0.2 to 0.3 or the Moon's not 0 to 0.3";
     default: return "unknown refusal";
     }
 }
@@ -285,6 +287,57 @@ RADDLEHUE_INLINE raddlehue_day_answer_t raddlehue_day_of(
     answer.rise_minute = rise_set.rise_minute;
     answer.has_set = rise_set.has_set;
     answer.set_minute = rise_set.set_minute;
+    return answer;
+}
+
+/* ---- how much of the Sun is covered */
+
+typedef struct {
+    int64_t separation_e8;    /* of the two centres, 0 to 18,000,000,000 */
+    int64_t sun_radius_e8;    /* of the Sun's disk */
+    int64_t moon_radius_e8;   /* of the Moon's disk */
+    int64_t share_millionths; /* of the Sun's disk that the Moon's covers, 0 to 1,000,000 */
+} raddlehue_eclipse_t;
+
+/* The Sun and the Moon as two disks at a moment, from a point. The disks touch where the separation is the sum of the radii; from there on the share is 0, as it nearly always is. The whole Sun is covered,
+ * and the share is 1,000,000, where the Moon's radius is at least the Sun's and the separation at most their difference; where the Moon's is the smaller, a ring is left there, whose share is a floor.
+ * Elsewhere the share is within 10 millionths of the area of the two circles, and next to a contact may round to 0 or to 1,000,000: separation and radii tell the contacts. The horizon does not enter:
+ * raddlehue_place says whether the Sun is up. Against JPL's DE431 the Moon lies within 0.002 degree (docs/FIGURES.md). Refused: 1 to 9. */
+uint32_t raddlehue_eclipse(const raddlehue_start_t *start, const raddlehue_point_t *point, raddlehue_eclipse_t *eclipse);
+
+typedef struct {
+    uint32_t refusal;
+    int64_t separation_e8;
+    int64_t sun_radius_e8;
+    int64_t moon_radius_e8;
+    int64_t share_millionths;
+} raddlehue_eclipse_answer_t;
+
+RADDLEHUE_INLINE raddlehue_eclipse_answer_t raddlehue_eclipse_of(raddlehue_start_t start, raddlehue_point_t point)
+{
+    raddlehue_eclipse_t eclipse = {0, 0, 0, 0};
+    raddlehue_eclipse_answer_t answer;
+    answer.refusal = raddlehue_eclipse(&start, &point, &eclipse);
+    answer.separation_e8 = eclipse.separation_e8;
+    answer.sun_radius_e8 = eclipse.sun_radius_e8;
+    answer.moon_radius_e8 = eclipse.moon_radius_e8;
+    answer.share_millionths = eclipse.share_millionths;
+    return answer;
+}
+
+/* The share by itself, of a separation of 0 to 18,000,000,000, a Sun's radius of 20,000,000 to 30,000,000 and a Moon's of 0 to 30,000,000. Refused: 105. */
+uint32_t raddlehue_covered_share(int64_t separation_e8, int64_t sun_radius_e8, int64_t moon_radius_e8, int64_t *share_millionths);
+
+typedef struct {
+    uint32_t refusal;
+    int64_t share_millionths;
+} raddlehue_covered_share_answer_t;
+
+RADDLEHUE_INLINE raddlehue_covered_share_answer_t raddlehue_covered_share_of(int64_t separation_e8, int64_t sun_radius_e8, int64_t moon_radius_e8)
+{
+    raddlehue_covered_share_answer_t answer;
+    answer.share_millionths = 0;
+    answer.refusal = raddlehue_covered_share(separation_e8, sun_radius_e8, moon_radius_e8, &answer.share_millionths);
     return answer;
 }
 

@@ -47,19 +47,27 @@ static int64_t outside(int64_t lo, int64_t hi) {
 
 static int64_t mostly(int64_t lo, int64_t hi) { return below(12) ? field(lo, hi) : outside(lo, hi); }
 
-static const struct { int64_t lo, hi; } FIELDS[12] = {
+typedef struct {
+    int64_t lo, hi;
+} range_t;
+
+static const range_t FIELDS[12] = {
     {1900, 2100}, {1, 12}, {1, 28}, {0, 23}, {0, 59}, {0, 59}, {0, 9}, {-9, 9}, {-80000, 80000},
     {-1800000000, 1800000000}, {-900000000, 900000000}, {-500, 9000}};
 
 /* One request in eight has a number outside its range. */
+static void damage(int64_t *n, const range_t *ranges, uint64_t count) {
+    if (below(8) == 0) {
+        uint64_t i = below(count);
+        n[i] = outside(ranges[i].lo, ranges[i].hi);
+    }
+}
+
 void random_request(int64_t n[12]) {
     for (int i = 0; i < 12; i++) {
         n[i] = field(FIELDS[i].lo, FIELDS[i].hi);
     }
-    if (below(8) == 0) {
-        int i = (int)below(12);
-        n[i] = outside(FIELDS[i].lo, FIELDS[i].hi);
-    }
+    damage(n, FIELDS, 12);
 }
 
 /* ---- lines */
@@ -213,6 +221,16 @@ static void show_day(const int64_t n[8], uint32_t body) {
     show_lent(raddlehue_day(date, body, point, (int64_t *)&curve[SIDE], lend()), 2), show_curve(), end_line();
 }
 
+static void show_eclipse(const int64_t n[12]) {
+    name("eclipse"), numbers(n, 12);
+    show_lent(raddlehue_eclipse(start_of(n), point_of(n), lend()), 4), end_line();
+}
+
+static void show_covered_share(const int64_t n[3]) {
+    name("covered_share"), numbers(n, 3);
+    show_lent(raddlehue_covered_share(n[0], n[1], n[2], lend()), 1), end_line();
+}
+
 static void show_middle(int64_t a, int64_t b) {
     name("middle"), word((uint64_t)a), word((uint64_t)b);
     show_lent(raddlehue_middle(a, b, lend()), 1), end_line();
@@ -288,6 +306,33 @@ static void random_day(const int64_t n[12], uint32_t body, int whole) {
     show_day(day, body);
 }
 
+/* Hardly any moment has an eclipse: this one is within two hours and five degrees of one of 003's Table 4. */
+void near_eclipse(int64_t n[12]) {
+    __builtin_memcpy(n, table_4[below(7)], sizeof table_4[0]);
+    n[3] += between(-1, 1);
+    for (int i = 4; i < 8; i++) {
+        n[i] = between(FIELDS[i].lo, FIELDS[i].hi);
+    }
+    n[9] += between(-50000000, 50000000), n[10] += between(-50000000, 50000000);
+    n[11] = between(FIELDS[11].lo, FIELDS[11].hi);
+}
+
+/* A separation, the Sun's radius and the Moon's: anywhere, where the disks overlap, and next to both contacts. */
+static void random_share(void) {
+    static const range_t DISKS[3] = {{0, 18000000000}, {20000000, 30000000}, {0, 30000000}};
+    int64_t n[3];
+    n[1] = field(DISKS[1].lo, DISKS[1].hi);
+    n[2] = below(4) ? field(DISKS[2].lo, DISKS[2].hi) : n[1];
+    switch (below(4)) {
+    case 0: n[0] = field(DISKS[0].lo, DISKS[0].hi); break;
+    case 1: n[0] = between(0, n[1] + n[2]); break;
+    case 2: n[0] = n[1] + n[2] + between(-2, 2); break;
+    default: n[0] = (n[1] < n[2] ? n[2] - n[1] : n[1] - n[2]) + between(-2, 2);
+    }
+    damage(n, DISKS, 3);
+    show_covered_share(n);
+}
+
 void run_random(uint32_t count, uint64_t s) {
     seed(s);
     for (uint32_t i = 0; i < count; i++) {
@@ -303,6 +348,10 @@ void run_random(uint32_t count, uint64_t s) {
         show_instant(n);
         random_batch(n, code(2));
         random_day(n, code(2), i % 50 == 0);
+        show_eclipse(n);
+        near_eclipse(n), damage(n, FIELDS, 12);
+        show_eclipse(n);
+        random_share();
         x = field(-1, 36000000000), y = below(4) ? field(-1, 36000000000) : x + 18000000000;
         show_middle(x, y);
         show_refraction(below(2) ? mostly(-9000000000, 9000000000) : field(RADDLEHUE_LOWEST_REFRACTED_E8 - 1, 200000000), air);
@@ -412,6 +461,14 @@ static void run_vector(const char *text) {
             n[i] = decimal();
         }
         show_day(n, body);
+    } else if (is_kind(text, "eclipse")) {
+        twelve(n);
+        show_eclipse(n);
+    } else if (is_kind(text, "share")) {
+        for (int i = 0; i < 3; i++) {
+            n[i] = decimal();
+        }
+        show_covered_share(n);
     } else {
         uint32_t body = *text == 'm';
         if (!is_kind(text, body ? "moon" : "sun")) {

@@ -38,6 +38,8 @@ extern "C" {
         batch: *mut [u64; 2],
     ) -> u32;
     pub fn raddlehue_day(date: &[i64; 5], body: u32, point: &[i64; 3], elevations: *mut [i64; MINUTES], rise_set: *mut [u32; 4]) -> u32;
+    pub fn raddlehue_eclipse(start: &[i64; 9], point: &[i64; 3], eclipse: *mut [i64; 4]) -> u32;
+    pub fn raddlehue_covered_share(separation: i64, sun_radius: i64, moon_radius: i64, share: *mut i64) -> u32;
     pub fn raddlehue_middle(a: i64, b: i64, azimuth: *mut i64) -> u32;
     pub fn raddlehue_refraction(elevation: i64, air: u32, pressure: f64, temperature: f64, degrees: *mut f64) -> u32;
     pub fn raddlehue_day_count(year: i64, month: i64, day: i64, days: *mut i64) -> u32;
@@ -99,6 +101,24 @@ fn lent<T: Copy>(poison: T, call: impl FnOnce(*mut T) -> u32) -> Answer<T> {
 
 fn poisoned<const N: usize>(call: impl FnOnce(*mut [i64; N]) -> u32) -> Answer<[i64; N]> {
     lent([POISON; N], call)
+}
+
+// A request that nothing refuses: the nine numbers of a start and the three of a point; and what refuses each of these where it is out of all range.
+pub const GOOD_REQUEST: [i64; 12] = [2024, 2, 29, 12, 30, 15, 5, -3, 692, 1_122_334_455, -455_443_322, 120];
+const REQUEST_REFUSALS: [u32; 12] = [1, 2, 3, 4, 4, 4, 4, 5, 6, 7, 8, 9];
+
+// The least and the greatest number in each field, with what refuses it; before it all are good, and after it none need be.
+pub fn wrong_requests() -> Vec<([i64; 12], u32)> {
+    let mut wrong = vec![];
+    for (field, refusal) in REQUEST_REFUSALS.into_iter().enumerate() {
+        for extreme in [i64::MIN, i64::MAX] {
+            let (mut one, mut rest) = (GOOD_REQUEST, GOOD_REQUEST);
+            one[field] = extreme;
+            rest[field..].fill(extreme);
+            wrong.extend([(one, refusal), (rest, refusal)]);
+        }
+    }
+    wrong
 }
 
 // The start and the point of a request's twelve numbers.
@@ -174,6 +194,16 @@ pub fn day(numbers: &[i64; 8], body: u32) -> Answer<Day> {
 pub fn at_minute(numbers: &[i64; 8], minute: usize) -> [i64; 12] {
     let [year, month, day, ut1, delta_t, longitude, latitude, height] = *numbers;
     [year, month, day, minute as i64 / 60, minute as i64 % 60, 0, 0, ut1, delta_t, longitude, latitude, height]
+}
+
+// Separation, the Sun's radius, the Moon's and the covered share.
+pub fn eclipse(numbers: &[i64; 12]) -> Answer<[i64; 4]> {
+    let (start, point) = (start_of(numbers), point_of(numbers));
+    poisoned(|at| unsafe { raddlehue_eclipse(start, point, at) })
+}
+
+pub fn covered_share(separation: i64, sun_radius: i64, moon_radius: i64) -> Answer<i64> {
+    lent(POISON, |at| unsafe { raddlehue_covered_share(separation, sun_radius, moon_radius, at) })
 }
 
 pub fn middle(a: i64, b: i64) -> Answer<i64> {

@@ -3,10 +3,11 @@
 //     differential COUNT [SEED]
 //
 // COUNT requests for a place, each asked for plainly and as shown, and with them instants, batches, middles, refractions (many of them at the limit below which there is
-// none), the leaves and the sums at an instant; for every sixteenth a place is moved east or west to where the body stands at that limit, and asked for on both sides; of
-// whole days, which are 1,440 places each, one for every 200 requests, and damaged ones, which cost nothing, for every eighth.
+// none), covered shares of three numbers, the leaves and the sums at an instant; for every fourth an eclipse, half of these near one that was; for every sixteenth a place is
+// moved east or west to where the body stands at that limit, and asked for on both sides; of whole days, which are 1,440 places each, one for every 200 requests, and damaged
+// ones, which cost nothing, for every eighth.
 // A refused call writes nothing: its memory stays poisoned. The first mismatch ends the run with the request that gave it, and so does a refusal that no request
-// of the run was given (in a run of some thousands all are).
+// of the run was given, a side of that limit or a case of the share that none had (in a run of some thousands all are).
 use std::env;
 use std::fmt::Debug;
 use std::process::exit;
@@ -15,6 +16,7 @@ use raddlehue_reference as reference;
 
 mod archive;
 mod random_days;
+mod random_eclipses;
 use archive::*;
 
 const FULL_TURN: i64 = 36_000_000_000;
@@ -124,8 +126,7 @@ fn request(random: &mut Random) -> Request {
         _ => 0,
     };
     for _ in 0..damaged {
-        let at = random.below(12) as usize;
-        numbers[at] = random.outside(FIELDS[at].0, FIELDS[at].1);
+        damage(random, &mut numbers);
     }
     let air = Air {
         kind: code(random, 3),
@@ -133,6 +134,12 @@ fn request(random: &mut Random) -> Request {
         temperature: double(random, -80.0, 80.0),
     };
     Request { numbers, body: code(random, 2), air }
+}
+
+// One number outside its range.
+fn damage(random: &mut Random, numbers: &mut [i64; 12]) {
+    let at = random.below(12) as usize;
+    numbers[at] = random.outside(FIELDS[at].0, FIELDS[at].1);
 }
 
 // A code below so many, and now and then one that is not.
@@ -201,10 +208,15 @@ struct Seen {
     refractions: [u64; 256],
     sums: [u64; 256],
     days: [u64; 256],
+    eclipses: [u64; 256],
+    shares: [u64; 256],
     // of the places next to the limit of refraction, those below it and those that are not
     limits: [u64; 2],
     // of the accepted days, those without a rise, without a set, and with one of them at minute 0
     crossings: [u64; 3],
+    // of the accepted eclipses that were drawn near one, and of the accepted triples, those of each case of the share
+    eclipse_cases: [u64; 4],
+    share_cases: [u64; 4],
 }
 
 fn same<T: PartialEq + Debug>(what: &str, input: impl Debug, ours: Answer<T>, expected: Answer<T>, seen: &mut [u64; 256]) {
@@ -322,6 +334,29 @@ fn day_of((numbers, body): ([i64; 8], u32), seen: &mut Seen) {
     }
 }
 
+fn eclipse_of(random: &mut Random, asked: &Request, seen: &mut Seen) {
+    let is_near = random.one_in(2);
+    let numbers = if is_near { random_eclipses::near(random) } else { asked.numbers };
+    let asked = Request { numbers, ..*asked };
+    let found = reference::eclipse(asked.reference_start(), asked.reference_point()).map_err(u32::from);
+    let expected = answer(found.map(|found| [found.separation, found.sun_radius, found.moon_radius, found.share]));
+    same("eclipse", numbers, eclipse(&numbers), expected, &mut seen.eclipses);
+    if let (0, [separation, sun, moon, _], true) = (expected.0, expected.1, is_near) {
+        seen.eclipse_cases[random_eclipses::case_of([separation, sun, moon])] += 1;
+    }
+}
+
+fn share_of(random: &mut Random, seen: &mut Seen) {
+    let disks = random_eclipses::triple(random);
+    let [separation, sun, moon] = disks;
+    let judged = if reference::eclipse::are_disks(separation, sun, moon) { Ok(()) } else { Err(105) };
+    let expected = answer_one(judged.map(|()| reference::covered_share(separation, sun, moon)));
+    same("covered share", disks, covered_share(separation, sun, moon), expected, &mut seen.shares);
+    if judged.is_ok() {
+        seen.share_cases[random_eclipses::case_of(disks)] += 1;
+    }
+}
+
 fn azimuth(random: &mut Random) -> i64 {
     match random.below(10) {
         0 => random.outside(0, FULL_TURN - 1),
@@ -411,49 +446,82 @@ fn complete(what: &str, seen: &[u64; 256], refusals: impl IntoIterator<Item = us
     format!("    {what} {}", counts.join(", "))
 }
 
-fn main() {
-    let numbers: Vec<u64> = env::args().skip(1).filter_map(|word| word.parse().ok()).collect();
-    let count = numbers.first().copied().unwrap_or(1_000_000);
-    let mut random = Random(numbers.get(1).copied().unwrap_or(1));
-    let none = [0; 256];
-    let mut seen =
-        Seen { places: none, instants: none, batches: none, middles: none, refractions: none, sums: none, days: none, limits: [0; 2], crossings: [0; 3] };
-    for turn in 0..count {
-        let mut asked = request(&mut random);
-        place_of(&asked, &mut seen);
-        instant_of(&asked, &mut seen);
-        date(&mut random, &asked, &mut seen);
-        refraction_of(&mut random, asked.air, &mut seen);
-        middle_of(&mut random, &mut seen);
-        leaves(&mut random);
-        if turn % 16 == 0 {
-            limit_of(&mut random, &asked, &mut seen);
-        }
-        if turn % 4 == 0 {
-            batch_of(&mut random, &mut asked, &mut seen);
-            sums_at(&mut random, &mut seen);
-        }
-        if turn % 8 == 0 {
-            day_of(random_days::damaged(&mut random), &mut seen);
-        }
-        if turn % 200 == 0 {
-            day_of(random_days::accepted(&mut random), &mut seen);
-        }
-    }
-    if seen.limits.contains(&0) {
-        eprintln!("differential: places of this run next to the limit of refraction, below it and not: {:?}", seen.limits);
+// Every case of a kind of call, each to be drawn.
+fn all_drawn(what: &str, names: &[&str], counts: &[u64]) -> String {
+    if counts.contains(&0) {
+        eprintln!("differential: {what}: {names:?} were drawn {counts:?} times in this run");
         exit(1);
     }
-    let drawn = [
+    let pairs: Vec<String> = names.iter().zip(counts).map(|(name, count)| format!("{name} {count}")).collect();
+    format!("    {what} {}", pairs.join(", "))
+}
+
+fn draw(random: &mut Random, turn: u64, seen: &mut Seen) {
+    let mut asked = request(random);
+    place_of(&asked, seen);
+    instant_of(&asked, seen);
+    date(random, &asked, seen);
+    refraction_of(random, asked.air, seen);
+    middle_of(random, seen);
+    share_of(random, seen);
+    leaves(random);
+    if turn % 16 == 0 {
+        limit_of(random, &asked, seen);
+    }
+    if turn % 4 == 0 {
+        eclipse_of(random, &asked, seen);
+        batch_of(random, &mut asked, seen);
+        sums_at(random, seen);
+    }
+    if turn % 8 == 0 {
+        day_of(random_days::damaged(random), seen);
+    }
+    if turn % 200 == 0 {
+        day_of(random_days::accepted(random), seen);
+    }
+}
+
+// What was drawn, a line for each kind.
+fn summary(seen: &Seen) -> Vec<String> {
+    vec![
         complete("places", &seen.places, (1..=11).chain([101, 102])),
         complete("instants and dates", &seen.instants, 1..=6),
         complete("batches", &seen.batches, (1..=9).chain([12, 13, 101])),
         complete("middles", &seen.middles, [14, 15]),
         complete("refractions", &seen.refractions, [10, 11, 102, 103]),
-        format!("    places next to the limit of refraction, below it {}, not below it {}", seen.limits[0], seen.limits[1]),
+        all_drawn("places next to the limit of refraction,", &["below it", "not below it"], &seen.limits),
         complete("sums", &seen.sums, [104]),
         complete("days", &seen.days, [1, 2, 3, 5, 6, 7, 8, 9, 101]),
         format!("    days without a rise {}, without a set {}, with one at minute 0 {}", seen.crossings[0], seen.crossings[1], seen.crossings[2]),
-    ];
-    println!("differential: {count} requests, 0 mismatches; answered (0) and refused\n{}", drawn.join("\n"));
+        complete("eclipses", &seen.eclipses, 1..=9),
+        all_drawn("eclipses near one that was,", &random_eclipses::CASES, &seen.eclipse_cases),
+        complete("shares", &seen.shares, [105]),
+        all_drawn("shares of three numbers,", &random_eclipses::CASES, &seen.share_cases),
+    ]
+}
+
+fn main() {
+    let numbers: Vec<u64> = env::args().skip(1).filter_map(|word| word.parse().ok()).collect();
+    let count = numbers.first().copied().unwrap_or(1_000_000);
+    let mut random = Random(numbers.get(1).copied().unwrap_or(1));
+    let none = [0; 256];
+    let mut seen = Seen {
+        places: none,
+        instants: none,
+        batches: none,
+        middles: none,
+        refractions: none,
+        sums: none,
+        days: none,
+        eclipses: none,
+        shares: none,
+        limits: [0; 2],
+        crossings: [0; 3],
+        eclipse_cases: [0; 4],
+        share_cases: [0; 4],
+    };
+    for turn in 0..count {
+        draw(&mut random, turn, &mut seen);
+    }
+    println!("differential: {count} requests, 0 mismatches; answered (0) and refused\n{}", summary(&seen).join("\n"));
 }

@@ -20,13 +20,13 @@ fn numbers(call: u64) -> [i64; 9] {
     [year, month, day, call * 7 % 24, call * 13 % 60, call * 17 % 60, 0, 0, 670].map(|number| number as i64)
 }
 
-fn reference_start(call: u64) -> reference::Start {
-    let [year, month, day, hour, minute, second, tenth, ut1, delta_t] = numbers(call);
+fn reference_start(numbers: [i64; 9]) -> reference::Start {
+    let [year, month, day, hour, minute, second, tenth, ut1, delta_t] = numbers;
     reference::Start { year, month, day, hour, minute, second, tenth, ut1, delta_t }
 }
 
-fn reference_point() -> reference::Point {
-    reference::Point { longitude: POINT[0], latitude: POINT[1], height: POINT[2] }
+fn reference_point([longitude, latitude, height]: [i64; 3]) -> reference::Point {
+    reference::Point { longitude, latitude, height }
 }
 
 fn reference_air() -> reference::Air {
@@ -48,7 +48,7 @@ fn place_of(body: u32, call: u64) -> i64 {
 }
 
 fn reference_place(body: u32, call: u64) -> i64 {
-    let place = reference::place(reference_start(call), reference_body(body), reference_point(), reference_air());
+    let place = reference::place(reference_start(numbers(call)), reference_body(body), reference_point(POINT), reference_air());
     place.map_or(0, |place| place.azimuth ^ place.elevation)
 }
 
@@ -59,7 +59,7 @@ fn shown_of(body: u32, call: u64) -> i64 {
 }
 
 fn reference_shown(body: u32, call: u64) -> i64 {
-    let shown = reference::shown_place(reference_start(call), reference_body(body), reference_point(), reference_air());
+    let shown = reference::shown_place(reference_start(numbers(call)), reference_body(body), reference_point(POINT), reference_air());
     shown.map_or(0, |shown| (shown.azimuth.to_bits() ^ shown.elevation.to_bits()) as i64)
 }
 
@@ -92,8 +92,8 @@ fn batch_of_a_day(body: u32, call: u64) -> i64 {
 
 fn reference_batch_of_a_day(body: u32, call: u64) -> i64 {
     let (mut azimuths, mut elevations) = (vec![0; MINUTES], vec![0; MINUTES]);
-    let at = reference::Start { hour: 0, minute: 0, second: 0, ..reference_start(call) };
-    let _ = reference::batch(at, reference_body(body), reference_point(), &offsets(), &mut azimuths, &mut elevations);
+    let at = reference::Start { hour: 0, minute: 0, second: 0, ..reference_start(numbers(call)) };
+    let _ = reference::batch(at, reference_body(body), reference_point(POINT), &offsets(), &mut azimuths, &mut elevations);
     azimuths.iter().chain(&elevations).fold(0, |sum, entry| sum ^ entry)
 }
 
@@ -109,10 +109,43 @@ fn reference_day(body: u32, call: u64) -> i64 {
     let [year, month, day, .., ut1, delta_t] = numbers(call);
     let date = reference::Date { year, month, day, ut1, delta_t };
     let mut elevations = [0; MINUTES];
-    let found = reference::day(date, reference_body(body), reference_point(), &mut elevations);
+    let found = reference::day(date, reference_body(body), reference_point(POINT), &mut elevations);
     let [rise, set] = found.map_or([None; 2], |found| [found.rise, found.set]);
     let told = [(rise, 1, 4), (set, 2, 8192)].map(|(minute, flag, scale)| minute.map_or(0, |minute| flag + scale * minute as i64));
     elevations.iter().fold(told[0] + told[1], |sum, entry| sum ^ entry)
+}
+
+// The open Pacific on 22 July 2009 (003, Table 4), and another second of it for each call, 01:06:00 to 03:52:39, at all of which something is covered.
+const PACIFIC: [i64; 3] = [1_433_617_000, 246_117_000, 0];
+
+fn eclipse_second(call: u64) -> [i64; 9] {
+    let second = 3_960 + (call * 37 % 10_000) as i64;
+    [2009, 7, 22, second / 3600, second / 60 % 60, second % 60, 0, 0, 664]
+}
+
+fn eclipse_of(call: u64) -> i64 {
+    let mut eclipse = [0; 4];
+    unsafe { raddlehue_eclipse(&eclipse_second(call), &PACIFIC, &mut eclipse) };
+    eclipse.iter().fold(0, |sum, entry| sum ^ entry)
+}
+
+fn reference_eclipse(call: u64) -> i64 {
+    let eclipse = reference::eclipse(reference_start(eclipse_second(call)), reference_point(PACIFIC));
+    eclipse.map_or(0, |eclipse| eclipse.separation ^ eclipse.sun_radius ^ eclipse.moon_radius ^ eclipse.share)
+}
+
+// The radii of that eclipse, and a separation between inner contact and outer.
+const SUN_RADIUS: i64 = 26_236_064;
+const MOON_RADIUS: i64 = 28_346_192;
+
+fn separation(call: u64) -> i64 {
+    MOON_RADIUS - SUN_RADIUS + 1 + (call * 700_001) as i64 % (2 * SUN_RADIUS - 1)
+}
+
+fn share_of(call: u64) -> i64 {
+    let mut share = 0;
+    unsafe { raddlehue_covered_share(separation(call), SUN_RADIUS, MOON_RADIUS, &mut share) };
+    share
 }
 
 // A sum's answer, one of its numbers.
@@ -143,7 +176,7 @@ struct Call {
     reference: fn(u64) -> i64,
 }
 
-const CALLS: [Call; 15] = [
+const CALLS: [Call; 17] = [
     Call { name: "place of the Sun", places: 1, ours: |call| place_of(0, call), reference: |call| reference_place(0, call) },
     Call { name: "place of the Moon", places: 1, ours: |call| place_of(1, call), reference: |call| reference_place(1, call) },
     Call { name: "shown place of the Sun", places: 1, ours: |call| shown_of(0, call), reference: |call| reference_shown(0, call) },
@@ -162,6 +195,13 @@ const CALLS: [Call; 15] = [
     },
     Call { name: "a day with rise and set, Sun, each minute", places: 1440, ours: |call| day_of(0, call), reference: |call| reference_day(0, call) },
     Call { name: "a day with rise and set, Moon, each minute", places: 1440, ours: |call| day_of(1, call), reference: |call| reference_day(1, call) },
+    Call { name: "an eclipse", places: 1, ours: eclipse_of, reference: reference_eclipse },
+    Call {
+        name: "a covered share",
+        places: 1,
+        ours: share_of,
+        reference: |call| reference::covered_share(separation(call), SUN_RADIUS, MOON_RADIUS),
+    },
     Call {
         name: "sums of the Sun",
         places: 1,

@@ -36,6 +36,12 @@ static const raddlehue_point_t late_point = {-243466823, -65708847, 6033};
 static const raddlehue_date_t longest_day = {2009, 6, 21, 0, 659};
 static const raddlehue_point_t greenwich = {0, 514769000, 46};
 
+/* 003, Table 4, its first eclipse and its last: the whole Sun, and a ring. */
+static const raddlehue_start_t whole_start = {2009, 7, 22, 2, 33, 0, 0, 0, 664};
+static const raddlehue_point_t whole_point = {1433617000, 246117000, 0};
+static const raddlehue_start_t ring_start = {1981, 2, 4, 21, 57, 36, 0, 0, 515};
+static const raddlehue_point_t ring_point = {-1459033000, -458883000, 0};
+
 static const int64_t reach = 31904733600;
 
 /* The doubles of the vectors are written as their bits. */
@@ -68,6 +74,7 @@ static int sizes(void)
     CHECK(sizeof(raddlehue_batch_t) == 2 * sizeof(uint64_t));
     CHECK(sizeof(raddlehue_date_t) == 5 * sizeof(int64_t));
     CHECK(sizeof(raddlehue_rise_set_t) == 4 * sizeof(uint32_t));
+    CHECK(sizeof(raddlehue_eclipse_t) == 4 * sizeof(int64_t));
     CHECK(sizeof(raddlehue_instant_t) == 2 * sizeof(int64_t));
     CHECK(sizeof(raddlehue_moon_sums_t) == 3 * sizeof(int64_t));
     CHECK(sizeof(raddlehue_sun_sums_t) == 3 * sizeof(int64_t));
@@ -85,7 +92,7 @@ static int texts(void)
 {
     uint32_t refusal;
     for (refusal = 0; refusal < 300; refusal++)
-        CHECK(known(refusal) == (refusal <= 16 || (101 <= refusal && refusal <= 104)));
+        CHECK(known(refusal) == (refusal <= 16 || (101 <= refusal && refusal <= 105)));
     CHECK(!known(0xffffffffu));
     CHECK(strcmp(raddlehue_refusal_text(RADDLEHUE_ACCEPTED), "accepted") == 0);
     CHECK(strcmp(raddlehue_refusal_text(RADDLEHUE_YEAR), "the year is not 1900 to 2100") == 0);
@@ -315,6 +322,82 @@ static int refused_day(void)
     return 0;
 }
 
+static int eclipse(void)
+{
+    raddlehue_eclipse_t eclipse = {-7, -8, -9, -10};
+    raddlehue_eclipse_answer_t answer;
+    CHECK(raddlehue_eclipse(&whole_start, &whole_point, &eclipse) == RADDLEHUE_ACCEPTED);
+    CHECK(eclipse.separation_e8 == 45193 && eclipse.sun_radius_e8 == 26236064 && eclipse.moon_radius_e8 == 28346192);
+    CHECK(eclipse.share_millionths == 1000000);
+    answer = raddlehue_eclipse_of(ring_start, ring_point);
+    CHECK(answer.refusal == RADDLEHUE_ACCEPTED && answer.separation_e8 == 76975);
+    CHECK(answer.sun_radius_e8 == 27034383 && answer.moon_radius_e8 == 26874029 && answer.share_millionths == 988172);
+    answer = raddlehue_eclipse_of(moon_start, moon_point);
+    CHECK(answer.refusal == RADDLEHUE_ACCEPTED && answer.share_millionths == 0);
+    CHECK(answer.separation_e8 > answer.sun_radius_e8 + answer.moon_radius_e8);
+    return 0;
+}
+
+static int refused_eclipse(void)
+{
+    raddlehue_start_t start = whole_start;
+    raddlehue_point_t point = whole_point;
+    raddlehue_eclipse_t eclipse = {-7, -8, -9, -10};
+    raddlehue_eclipse_answer_t answer;
+    point.height_metres = -501;
+    CHECK(raddlehue_eclipse(&start, &point, &eclipse) == RADDLEHUE_HEIGHT);
+    point.latitude_e7 = -900000001;
+    CHECK(raddlehue_eclipse(&start, &point, &eclipse) == RADDLEHUE_LATITUDE);
+    point.longitude_e7 = 1800000001;
+    CHECK(raddlehue_eclipse(&start, &point, &eclipse) == RADDLEHUE_LONGITUDE);
+    start.delta_t_tenths = -80001;
+    CHECK(raddlehue_eclipse(&start, &point, &eclipse) == RADDLEHUE_DELTA_T);
+    start.ut1_tenths = -10;
+    CHECK(raddlehue_eclipse(&start, &point, &eclipse) == RADDLEHUE_UT1);
+    start.hour = 24;
+    CHECK(raddlehue_eclipse(&start, &point, &eclipse) == RADDLEHUE_CLOCK);
+    start.day = 32;
+    CHECK(raddlehue_eclipse(&start, &point, &eclipse) == RADDLEHUE_DAY);
+    start.month = 0;
+    CHECK(raddlehue_eclipse(&start, &point, &eclipse) == RADDLEHUE_MONTH);
+    start.year = 1899;
+    CHECK(raddlehue_eclipse(&start, &point, &eclipse) == RADDLEHUE_YEAR);
+    CHECK(eclipse.separation_e8 == -7 && eclipse.sun_radius_e8 == -8 && eclipse.moon_radius_e8 == -9 && eclipse.share_millionths == -10);
+    answer = raddlehue_eclipse_of(start, point);
+    CHECK(answer.refusal == RADDLEHUE_YEAR && answer.separation_e8 == 0 && answer.sun_radius_e8 == 0);
+    CHECK(answer.moon_radius_e8 == 0 && answer.share_millionths == 0);
+    return 0;
+}
+
+static int share_is(int64_t separation, int64_t sun_radius, int64_t moon_radius, int64_t share)
+{
+    raddlehue_covered_share_answer_t answer = raddlehue_covered_share_of(separation, sun_radius, moon_radius);
+    return answer.refusal == RADDLEHUE_ACCEPTED && answer.share_millionths == share;
+}
+
+/* The disks touch, the whole Sun, a ring (24 by 24 of 26 by 26), a part of it (003, Table A.1.2, without refraction), and both ends of each range. */
+static int covered_share(void)
+{
+    int64_t share = -7;
+    raddlehue_covered_share_answer_t answer;
+    CHECK(raddlehue_covered_share(-1, 26000000, 24000000, &share) == RADDLEHUE_NO_DISKS);
+    CHECK(raddlehue_covered_share(18000000001, 26000000, 24000000, &share) == RADDLEHUE_NO_DISKS);
+    CHECK(raddlehue_covered_share(0, 19999999, 24000000, &share) == RADDLEHUE_NO_DISKS);
+    CHECK(raddlehue_covered_share(0, 30000001, 24000000, &share) == RADDLEHUE_NO_DISKS);
+    CHECK(raddlehue_covered_share(0, 26000000, -1, &share) == RADDLEHUE_NO_DISKS);
+    CHECK(raddlehue_covered_share(0, 26000000, 30000001, &share) == RADDLEHUE_NO_DISKS);
+    CHECK(share == -7);
+    CHECK(raddlehue_covered_share(50000000, 26000000, 24000000, &share) == RADDLEHUE_ACCEPTED && share == 0);
+    CHECK(share_is(2000000, 26000000, 28000000, 1000000));
+    CHECK(share_is(1000000, 26000000, 24000000, 852071));
+    CHECK(share_is(37487637, 26235977, 28334136, 216151));
+    CHECK(share_is(18000000000, 20000000, 0, 0) && share_is(0, 30000000, 0, 0));
+    CHECK(share_is(0, 20000000, 30000000, 1000000) && share_is(0, 30000000, 30000000, 1000000));
+    answer = raddlehue_covered_share_of(0, 0, 0);
+    CHECK(answer.refusal == RADDLEHUE_NO_DISKS && answer.share_millionths == 0);
+    return 0;
+}
+
 static int middle(void)
 {
     int64_t azimuth = -7;
@@ -435,5 +518,6 @@ static int numbers(void)
 int main(void)
 {
     return constants() || sizes() || texts() || place() || refusals() || shown_place() || batch() || refused_batch() || empty_batch() ||
-           day() || days_without() || refused_day() || middle() || refraction() || days_and_instants() || moon_and_sun() || earth() || numbers();
+           day() || days_without() || refused_day() || eclipse() || refused_eclipse() || covered_share() || middle() || refraction() ||
+           days_and_instants() || moon_and_sun() || earth() || numbers();
 }

@@ -8,12 +8,6 @@ use archive::*;
 // The kinds of lines that run here, with how many the three files have.
 const KINDS: [(&str, usize); 5] = [("sun", 231), ("moon", 252), ("batch", 6), ("middle", 240), ("refr", 285)];
 
-// A request that nothing refuses: the nine numbers of a start and the three of a point.
-const GOOD: [i64; 12] = [2024, 2, 29, 12, 30, 15, 5, -3, 692, 1_122_334_455, -455_443_322, 120];
-
-// What refuses each of these numbers where it is out of all range.
-const REFUSALS: [u32; 12] = [1, 2, 3, 4, 4, 4, 4, 5, 6, 7, 8, 9];
-
 // The cells of the buffers before a batch.
 const AZIMUTH_BEFORE: i64 = -7;
 const ELEVATION_BEFORE: i64 = -8;
@@ -150,23 +144,14 @@ fn batch_refused(n: &[i64; 12], body: u32, offsets: &[u32], lengths: (usize, usi
     assert_eq!(elevations, vec![ELEVATION_BEFORE; lengths.1]);
 }
 
-// The least and the greatest number in each field; before it all are good, and after it none need be.
 fn fields() {
-    for (field, refusal) in REFUSALS.into_iter().enumerate() {
-        for extreme in [i64::MIN, i64::MAX] {
-            let mut one = GOOD;
-            one[field] = extreme;
-            let mut rest = GOOD;
-            rest[field..].fill(extreme);
-            for request in [one, rest] {
-                refused(&request, SUN, NO_AIR, refusal);
-                refused(&request, MOON, measured(f64::NAN, f64::NAN), refusal);
-                batch_refused(&request, MOON, &[0, 1], (3, 2), refusal, 0);
-                batch_refused(&request, SUN, &[u32::MAX], (0, 0), refusal, 0);
-                if refusal <= 6 {
-                    assert_eq!(instant(start_of(&request)), (refusal, [POISON; 2]), "{request:?}");
-                }
-            }
+    for (request, refusal) in wrong_requests() {
+        refused(&request, SUN, NO_AIR, refusal);
+        refused(&request, MOON, measured(f64::NAN, f64::NAN), refusal);
+        batch_refused(&request, MOON, &[0, 1], (3, 2), refusal, 0);
+        batch_refused(&request, SUN, &[u32::MAX], (0, 0), refusal, 0);
+        if refusal <= 6 {
+            assert_eq!(instant(start_of(&request)), (refusal, [POISON; 2]), "{request:?}");
         }
     }
 }
@@ -175,7 +160,7 @@ fn fields() {
 fn codes() {
     let nowhere = [i64::MIN; 12];
     for code in [2, 3, 256, 1 << 31, u32::MAX] {
-        for request in [GOOD, nowhere] {
+        for request in [GOOD_REQUEST, nowhere] {
             refused(&request, code, STANDARD, 101);
             batch_refused(&request, code, &[0], (0, 1), 101, 0);
             batch_refused(&request, code, &[], (0, 0), 101, 0);
@@ -193,21 +178,21 @@ fn codes() {
 fn airs() {
     for x in [f64::NAN, -f64::NAN, f64::INFINITY, f64::NEG_INFINITY, f64::MAX, -1e-300, 1200.0000000000002] {
         for t in [x, 10.0] {
-            refused(&GOOD, SUN, measured(x, t), 10);
+            refused(&GOOD_REQUEST, SUN, measured(x, t), 10);
             assert_eq!(refraction(0, measured(x, t)), (10, POISON));
         }
     }
     for x in [f64::NAN, -f64::NAN, f64::INFINITY, f64::NEG_INFINITY, f64::MIN, 80.00000000000001, -80.00000000000001] {
-        refused(&GOOD, MOON, measured(1010.0, x), 11);
+        refused(&GOOD_REQUEST, MOON, measured(1010.0, x), 11);
         assert_eq!(refraction(0, measured(1010.0, x)), (11, POISON));
         for kind in [0, 1] {
             let given = Air { kind, pressure: x, temperature: x };
             let plain = Air { kind, ..NO_AIR };
-            assert_eq!(shown_place(&GOOD, SUN, given), shown_place(&GOOD, SUN, plain));
+            assert_eq!(shown_place(&GOOD_REQUEST, SUN, given), shown_place(&GOOD_REQUEST, SUN, plain));
             assert_eq!(refraction(500_000_000, given), refraction(500_000_000, plain));
         }
     }
-    let (standard, same) = (shown_place(&GOOD, SUN, STANDARD), shown_place(&GOOD, SUN, measured(1010.0, 10.0)));
+    let (standard, same) = (shown_place(&GOOD_REQUEST, SUN, STANDARD), shown_place(&GOOD_REQUEST, SUN, measured(1010.0, 10.0)));
     assert_eq!((standard.0, standard), (0, same));
 }
 
@@ -231,8 +216,8 @@ fn middles() {
 
 // 12 and 13, and batches of nothing.
 fn batches() {
-    batch_refused(&GOOD, SUN, &[0, 1], (1, 2), 12, 0);
-    batch_refused(&GOOD, MOON, &[u32::MAX, 1], (9, 1), 12, 0);
+    batch_refused(&GOOD_REQUEST, SUN, &[0, 1], (1, 2), 12, 0);
+    batch_refused(&GOOD_REQUEST, MOON, &[u32::MAX, 1], (9, 1), 12, 0);
     let eve = [2100, 12, 31, 23, 59, 59, 0, 0, 0, 0, 0, 0];
     batch_refused(&eve, SUN, &[0, 9, 10, u32::MAX], (4, 5), 13, 2);
     batch_refused(&eve, MOON, &[u32::MAX], (1, 1), 13, 0);
@@ -245,7 +230,7 @@ fn batches() {
 
 // A day by the minute, each entry the place that a request of its own has.
 fn day(body: u32) {
-    let mut request = GOOD;
+    let mut request = GOOD_REQUEST;
     request[3..7].fill(0);
     let offsets: Vec<u32> = (0..1440).map(|minute| 600 * minute).collect();
     let (mut azimuths, mut elevations) = (vec![AZIMUTH_BEFORE; 1441], vec![ELEVATION_BEFORE; 1442]);

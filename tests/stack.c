@@ -15,6 +15,9 @@ static void (*entry)(void);
 static raddlehue_start_t start = {2003, 10, 17, 19, 30, 30, 0, 0, 670};
 static raddlehue_date_t date = {2003, 10, 17, 0, 670};
 static raddlehue_point_t point = {-1051786000, 397424760, 1830};
+/* 003, Table A.1.2: a part of the Sun is covered, so that the share is worked */
+static raddlehue_start_t eclipse_start = {2009, 7, 22, 1, 33, 0, 0, 0, 664};
+static raddlehue_point_t eclipse_point = {1433616700, 246116700, 0};
 static const double pressure = 820.0, temperature = 11.0;
 static uint32_t body;
 static uint32_t offsets[COUNT];
@@ -23,6 +26,7 @@ static raddlehue_place_t place;
 static raddlehue_shown_place_t shown;
 static raddlehue_batch_t told;
 static raddlehue_rise_set_t rise_set;
+static raddlehue_eclipse_t disks;
 static raddlehue_instant_t moment;
 static raddlehue_moon_sums_t moon;
 static raddlehue_sun_sums_t sun;
@@ -36,6 +40,8 @@ static void plain_place(void) { kept = raddlehue_place(&start, body, &point, RAD
 static void shown_place(void) { kept = raddlehue_shown_place(&start, body, &point, RADDLEHUE_AIR_MEASURED, pressure, temperature, &shown); }
 static void batch(void) { kept = raddlehue_batch(&start, body, &point, offsets, COUNT, azimuths, COUNT, elevations, COUNT, &told); }
 static void day(void) { kept = raddlehue_day(&date, body, &point, curve, &rise_set); }
+static void eclipse(void) { kept = raddlehue_eclipse(&eclipse_start, &eclipse_point, &disks); }
+static void covered_share(void) { kept = raddlehue_covered_share(37487637, 26235977, 28334136, &number); }
 static void middle(void) { kept = raddlehue_middle(35990000000, 10000000, &number); }
 static void refraction(void) { kept = raddlehue_refraction(0, RADDLEHUE_AIR_MEASURED, pressure, temperature, &degrees); }
 static void day_count(void) { kept = raddlehue_day_count(2100, 12, 31, &number); }
@@ -88,6 +94,8 @@ int main(void) {
     row("raddlehue_batch", batch);
     row("raddlehue_day", day);
     row_with("raddlehue_day and the curve that it is lent", day, sizeof curve);
+    row("raddlehue_eclipse", eclipse);
+    row("raddlehue_covered_share", covered_share);
     row("raddlehue_middle", middle);
     row("raddlehue_refraction", refraction);
     row("raddlehue_day_count", day_count);

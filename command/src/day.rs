@@ -1,12 +1,11 @@
 //! `raddlehue day`: a table of the Sun and the Moon through a day.
 
-use crate::decimal;
 use crate::delta_t::Scales;
 use crate::failure::{quoted, Failure};
-use crate::format::{self, format_help, Format};
+use crate::format::{self, format_help, shown_place, Format};
 use crate::observer::{self, observer_help, scales_words, zone_help, Observer};
 use crate::rise_set::{passed_degrees, Day, Days};
-use crate::sky::{self, Body, Place, ANGLE_DECIMALS};
+use crate::sky::{self, Body, Place};
 use crate::time::Moment;
 use crate::words::{Command, Words};
 
@@ -39,10 +38,6 @@ at the usual sunrise. Elevations are without refraction. DATE is like
 
 const MINUTES_OF_DAY: u32 = 24 * 60;
 const TENTHS_OF_MINUTE: u32 = 600;
-
-/// The theory is good to some units of the fourth decimal, so that people need no more.
-const SHOWN_DECIMALS: u32 = 4;
-const TURN_SHOWN: i64 = 3_600_000;
 
 struct Row {
     moment: Moment,
@@ -111,17 +106,10 @@ fn text(table: &Table) -> String {
         passed_degrees()
     );
     for Row { moment, sun, moon } in &table.rows {
-        let (sun, moon) = (shown(*sun), shown(*moon));
+        let (sun, moon) = (shown_place(*sun), shown_place(*moon));
         text += &format!("{}  {:>11}  {:>13}  {:>12}  {:>14}\n", moment.hour_and_minute(), sun.0, sun.1, moon.0, moon.1);
     }
     text
-}
-
-// An azimuth that is rounded up to a whole turn is 0.
-fn shown(place: Place) -> (String, String) {
-    let rounded = |units_e8| decimal::rounded(units_e8, ANGLE_DECIMALS - SHOWN_DECIMALS);
-    let azimuth = rounded(place.azimuth_e8) % TURN_SHOWN;
-    (decimal::written(azimuth, SHOWN_DECIMALS), decimal::written(rounded(place.elevation_e8), SHOWN_DECIMALS))
 }
 
 fn json(table: &Table) -> String {
@@ -160,14 +148,6 @@ fn csv(table: &Table) -> String {
 #[cfg(test)]
 mod tests {
     use super::*;
-
-    #[test]
-    fn no_azimuth_is_shown_as_a_whole_turn() {
-        let place = Place { azimuth_e8: 35_999_999_999, elevation_e8: -4_999 };
-        assert_eq!(shown(place), ("0.0000".into(), "0.0000".into()));
-        let place = Place { azimuth_e8: 19_434_024_073, elevation_e8: -3_987_204_605 };
-        assert_eq!(shown(place), ("194.3402".into(), "-39.8720".into()));
-    }
 
     #[test]
     fn the_step_is_whole_minutes_of_a_day() {

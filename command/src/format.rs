@@ -6,7 +6,7 @@ use crate::decimal;
 use crate::delta_t::Scales;
 use crate::failure::Failure;
 use crate::rise_set::Day;
-use crate::sky::{Body, Place, Spot, ANGLE_DECIMALS, POINT_DECIMALS};
+use crate::sky::{Body, Place, Spot, ANGLE_DECIMALS, POINT_DECIMALS, SHARE_DECIMALS};
 use crate::time::Moment;
 use crate::words::{Flag, Words};
 
@@ -44,6 +44,36 @@ impl Format {
 /// Degrees with all the decimals that the library gives.
 pub fn angle(units_e8: i64) -> String {
     decimal::written(units_e8, ANGLE_DECIMALS)
+}
+
+/// The theory is good to some units of the fourth decimal, so that people need no more.
+const SHOWN_DECIMALS: u32 = 4;
+const TURN_SHOWN: i64 = 3_600_000;
+
+fn shown_units(units_e8: i64) -> i64 {
+    decimal::rounded(units_e8, ANGLE_DECIMALS - SHOWN_DECIMALS)
+}
+
+/// Degrees as people need them.
+pub fn shown_angle(units_e8: i64) -> String {
+    decimal::written(shown_units(units_e8), SHOWN_DECIMALS)
+}
+
+/// Azimuth and elevation as people need them; an azimuth that is rounded up to a whole turn is 0.
+pub fn shown_place(place: Place) -> (String, String) {
+    let azimuth = shown_units(place.azimuth_e8) % TURN_SHOWN;
+    (decimal::written(azimuth, SHOWN_DECIMALS), shown_angle(place.elevation_e8))
+}
+
+/// Per cent of the Sun's disk, with all that the library gives.
+pub fn percent(share_millionths: i64) -> String {
+    decimal::written(share_millionths, SHARE_DECIMALS)
+}
+
+/// Per cent for the width of a picture, never rounded up: only the whole Sun is 100.
+pub fn short_percent(share_millionths: i64) -> String {
+    const SHORT_DECIMALS: u32 = 2;
+    decimal::written(share_millionths.div_euclid(10i64.pow(SHARE_DECIMALS - SHORT_DECIMALS)), SHORT_DECIMALS)
 }
 
 /// Degrees of a double, which only refraction needs; to the same decimals, and never a zero with a minus.
@@ -167,6 +197,20 @@ mod tests {
         assert_eq!((angle_of_double(-1e-12), angle_of_double(-0.0)), ("0.00000000".into(), "0.00000000".into()));
         assert_eq!((angle_of_double(-0.00133), angle_of_double(39.888_378_0)), ("-0.00133000".into(), "39.88837800".into()));
         assert_eq!(angle_of_double(-10.0), "-10.00000000");
+    }
+
+    #[test]
+    fn no_azimuth_is_shown_as_a_whole_turn() {
+        let place = Place { azimuth_e8: 35_999_999_999, elevation_e8: -4_999 };
+        assert_eq!(shown_place(place), ("0.0000".into(), "0.0000".into()));
+        let place = Place { azimuth_e8: 19_434_024_073, elevation_e8: -3_987_204_605 };
+        assert_eq!(shown_place(place), ("194.3402".into(), "-39.8720".into()));
+    }
+
+    #[test]
+    fn a_share_is_per_cent() {
+        assert_eq!((percent(1_000_000), percent(999_999), percent(1)), ("100.0000".into(), "99.9999".into(), "0.0001".into()));
+        assert_eq!((short_percent(1_000_000), short_percent(999_999)), ("100.00".into(), "99.99".into()));
     }
 
     #[test]

@@ -11,6 +11,7 @@ mod calendar;
 mod day;
 mod decimal;
 mod delta_t;
+mod eclipse;
 mod failure;
 mod format;
 mod middle;
@@ -30,8 +31,8 @@ use std::io::{self, Write};
 use std::process::ExitCode;
 use words::{Command, Words};
 
-const COMMANDS: [&Command; 6] =
-    [&day::COMMAND, &place::COMMAND, &batch::COMMAND, &middle::COMMAND, &picture::COMMAND, &year::COMMAND];
+const COMMANDS: [&Command; 7] =
+    [&day::COMMAND, &place::COMMAND, &batch::COMMAND, &middle::COMMAND, &eclipse::COMMAND, &picture::COMMAND, &year::COMMAND];
 
 const ABOUT: &str = "raddlehue: where the Sun and the Moon stand
 ";

@@ -35,7 +35,8 @@ impl Stays {
     }
 }
 
-fn is_up(elevation_e8: i64) -> bool {
+/// By the rule of rise and set, of an elevation without refraction.
+pub fn is_up(elevation_e8: i64) -> bool {
     elevation_e8 >= RISE_SET_E8
 }
 

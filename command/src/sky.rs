@@ -4,12 +4,13 @@ use crate::failure::Failure;
 use crate::time::{Clock, Moment};
 use raddlehue::{Air, Date, Point, Refusal, Start};
 
-pub use raddlehue::{Body, Place, RiseSet, Shown, DAY_MINUTES, LOWEST_REFRACTED_E8, RISE_SET_E8};
+pub use raddlehue::{Body, Eclipse, Place, RiseSet, Shown, DAY_MINUTES, LOWEST_REFRACTED_E8, RISE_SET_E8};
 
-/// Decimals of the library's angles, of a point's degrees and of a second.
+/// Decimals of the library's angles, of a point's degrees, of a second, and of per cent of the Sun's disk in millionths.
 pub const ANGLE_DECIMALS: u32 = 8;
 pub const POINT_DECIMALS: u32 = 7;
 pub const SECOND_DECIMALS: u32 = 1;
+pub const SHARE_DECIMALS: u32 = 4;
 
 pub const DEGREE_E8: i64 = raddlehue::DEGREE_E8;
 pub const VERSION: &str = raddlehue::VERSION;
@@ -104,6 +105,19 @@ pub fn utc_day(view: View, body: Body) -> Result<UtcDay, Failure> {
     let mut elevations_e8 = [0; DAY_MINUTES];
     let rise_set = raddlehue::day(view.date(), body, view.point(), &mut elevations_e8);
     Ok(UtcDay { rise_set: rise_set.map_err(|refusal| refused(refusal, view.moment))?, elevations_e8 })
+}
+
+/// The Sun and the Moon as two disks, and how much of the Sun is covered.
+pub fn eclipse(view: View) -> Result<Eclipse, Failure> {
+    raddlehue::eclipse(view.start(), view.point()).map_err(|refusal| refused(refusal, view.moment))
+}
+
+/// The same, or nothing where the moment lies outside the years that are answered.
+pub fn eclipse_within_years(view: View) -> Result<Option<Eclipse>, Failure> {
+    match raddlehue::eclipse(view.start(), view.point()) {
+        Err(Refusal::Year) => Ok(None),
+        answer => answer.map(Some).map_err(|refusal| refused(refusal, view.moment)),
+    }
 }
 
 /// The middle of two azimuths, all in 1e-8 degree.

@@ -1,7 +1,10 @@
 //! What the pictures share: a page in units of which the width has 1000, so that it can be read on a phone, its heading, and the lines of words under it.
 
+pub mod chart;
 pub mod style;
 
+use crate::decimal;
+use crate::sky::DEGREE_E8;
 use std::fmt::Write;
 
 pub const WIDTH: f64 = 1000.0;
@@ -10,14 +13,26 @@ pub const MARGIN: f64 = 40.0;
 /// Lines of text under the picture: the first one's foot, from one to the next, from the last to the page's end, and where they begin beside a sample.
 pub const FIRST_LINE: f64 = 985.0;
 pub const LINE: f64 = 52.0;
-pub const LAST_LINE: f64 = 33.0;
+const LAST_LINE: f64 = 33.0;
 pub const INDENT: f64 = 150.0;
+
+/// The foot of the heading's second line.
+pub const PLACE: f64 = 112.0;
 
 /// From the middle of a letter's height to the foot of the line.
 pub const TO_FOOT: f64 = 13.0;
 
 /// A point of the sheet: from its left and from its top.
 pub type Spot = (f64, f64);
+
+pub fn degrees(units_e8: i64) -> f64 {
+    units_e8 as f64 / DEGREE_E8 as f64
+}
+
+/// Degrees to the tenth, as pictures say them.
+pub fn tenths(units_e8: i64) -> String {
+    decimal::written(decimal::rounded(units_e8, 7), 1)
+}
 
 /// What a picture says of itself: two lines above it, and a description for those who cannot see it.
 pub struct Heading {
@@ -26,16 +41,21 @@ pub struct Heading {
     pub description: String,
 }
 
-/// The whole page, with so many lines of text under the picture.
-pub fn page(heading: &Heading, lines: usize, style: &str, picture: &str) -> String {
+/// The foot of a line of text under the picture, counted from 0.
+pub fn foot(line: usize) -> f64 {
+    FIRST_LINE + LINE * line as f64
+}
+
+/// The whole page, down to the foot of its last line.
+pub fn page(heading: &Heading, last_foot: f64, style: &str, picture: &str) -> String {
     let Heading { title, place, description } = heading;
-    let height = FIRST_LINE + LINE * (lines as f64 - 1.0) + LAST_LINE;
+    let height = last_foot + LAST_LINE;
     format!(
         "<svg xmlns=\"http://www.w3.org/2000/svg\" viewBox=\"0 0 {WIDTH} {height}\" lang=\"en\" role=\"img\" \
          aria-labelledby=\"raddlehue-title raddlehue-desc\">\n\
          <title id=\"raddlehue-title\">{title}, {place}</title>\n<desc id=\"raddlehue-desc\">{description}</desc>\n{style}\
          <rect class=\"page\" width=\"{WIDTH}\" height=\"{height}\"/>\n\
-         <text class=\"title\" x=\"{MARGIN}\" y=\"60\">{title}</text>\n<text x=\"{MARGIN}\" y=\"112\">{place}</text>\n\
+         <text class=\"title\" x=\"{MARGIN}\" y=\"60\">{title}</text>\n<text x=\"{MARGIN}\" y=\"{PLACE}\">{place}</text>\n\
          {picture}</svg>\n"
     )
 }

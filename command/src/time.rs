@@ -125,6 +125,11 @@ impl Moment {
         Moment { tenths: self.tenths + TENTHS_OF_MINUTE * minutes as i64, ..self }
     }
 
+    /// Or earlier, where they are below zero.
+    pub fn seconds_later(self, seconds: i64) -> Moment {
+        Moment { tenths: self.tenths + 10 * seconds, ..self }
+    }
+
     pub fn in_utc(self) -> Moment {
         Moment { zone: UTC, ..self }
     }
@@ -170,6 +175,11 @@ impl Moment {
     pub fn hour_and_minute(self) -> String {
         let Clock { hour, minute, .. } = self.clock();
         format!("{hour:02}:{minute:02}")
+    }
+
+    /// The same with the second.
+    pub fn hour_minute_and_second(self) -> String {
+        format!("{}:{:02}", self.hour_and_minute(), self.clock().second)
     }
 }
 
@@ -292,6 +302,11 @@ mod tests {
         assert_eq!(midnight.later(36_000).hour_and_minute(), "01:00");
         let later = midnight.minutes_later(61);
         assert_eq!((later.hour_and_minute(), later.minute_of_day(), later.in_utc().minute_of_day()), ("01:01".into(), 61, 721));
+        let earlier = midnight.seconds_later(-1);
+        assert_eq!(
+            (earlier.hour_minute_and_second(), earlier.written()),
+            ("23:59:59".into(), "2026-11-14T23:59:59+13:00".into())
+        );
         for word in ["", "2026", "2026-8-9", "20261115", "2026-11-15T00:00Z", "15.11.2026", "2026-11-1x", "２０２６-11-15"] {
             assert!(matches!(Moment::midnight(word, UTC), Err(Failure::Usage(_))), "{word:?}");
         }

@@ -1,32 +1,14 @@
 //! What is answered: the published example, the forms, the streams and their failures.
 
+mod running;
+
+use running::{answer, raddlehue};
 use std::fs::OpenOptions;
-use std::io::Write;
-use std::process::{Command, Output, Stdio};
+use std::process::Stdio;
 
 const BOULDER: [&str; 8] = ["--lat", "39.742476", "--lon", "-105.1786", "--height", "1830", "--delta-t", "67"];
 const DUNEDIN: [&str; 6] = ["--lat", "45.5S", "--lon", "170.5E", "--zone", "+13:00"];
 const TROMSO: [&str; 6] = ["--lat", "69.6496N", "--lon", "18.956E", "--zone", "+01:00"];
-
-fn raddlehue(words: &[&str]) -> Command {
-    let mut command = Command::new(env!("CARGO_BIN_EXE_raddlehue"));
-    command.args(words);
-    command
-}
-
-fn output(words: &[&str], input: &str) -> Output {
-    let mut child = raddlehue(words).stdin(Stdio::piped()).stdout(Stdio::piped()).stderr(Stdio::piped()).spawn().unwrap();
-    child.stdin.take().unwrap().write_all(input.as_bytes()).unwrap();
-    child.wait_with_output().unwrap()
-}
-
-/// The standard output of what is answered without a word on the standard error.
-fn answer(words: &[&str], input: &str) -> String {
-    let output = output(words, input);
-    assert_eq!(output.status.code(), Some(0), "{words:?}: {}", String::from_utf8_lossy(&output.stderr));
-    assert!(output.stderr.is_empty(), "{words:?}");
-    String::from_utf8(output.stdout).unwrap()
-}
 
 // ---- figures
 
@@ -205,6 +187,10 @@ fn no_locale_changes_a_byte() {
         &["day", "2026-10-10", "--csv"],
         &["picture", "2026-10-10"],
         &["year", "2026"],
+        &["eclipse", "2028-07-22"],
+        &["eclipse", "2028-07-22", "--json"],
+        &["eclipse", "2028-07-22", "--csv"],
+        &["eclipse", "2028-07-22", "--picture"],
     ];
     for words in commands {
         let in_locale =
@@ -220,7 +206,7 @@ fn help_and_version_are_answers() {
     let help = answer(&["--help"], "");
     let fits = |page: &str| page.lines().all(|line| line.len() <= 80);
     assert!(fits(&help), "a page fits a terminal");
-    for command in ["day", "place", "batch", "middle", "picture", "year"] {
+    for command in ["day", "place", "batch", "middle", "eclipse", "picture", "year"] {
         assert!(help.contains(&format!("raddlehue {command} ")), "{command}");
         let page = answer(&[command, "--help"], "");
         assert!(page.starts_with(&format!("raddlehue {command} ")) && fits(&page), "{command}");
@@ -333,7 +319,9 @@ fn a_year_at_a_pole() {
 #[cfg(target_os = "linux")]
 #[test]
 fn a_full_disk_is_an_error() {
-    for words in [&["day", "2026-10-10"][..], &["picture", "2026-10-10"], &["year", "2026"]] {
+    for words in
+        [&["day", "2026-10-10"][..], &["picture", "2026-10-10"], &["year", "2026"], &["eclipse", "2028-07-22", "--picture"]]
+    {
         let full = OpenOptions::new().write(true).open("/dev/full").unwrap();
         let output = raddlehue(&[words, &DUNEDIN].concat()).stdout(full).output().unwrap();
         assert_eq!(output.status.code(), Some(1));

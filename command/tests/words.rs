@@ -41,6 +41,7 @@ fn dates() {
     for word in words {
         refused(&here(&["day", word]), "", 2, word);
         refused(&here(&["picture", word]), "", 2, word);
+        refused(&here(&["eclipse", word]), "", 2, word);
     }
     for word in [
         "2026-08-32", "2026-02-29", "2026-13-01", "2026-00-01", "2026-08-00", "1899-12-31", "2101-01-01", "0000-00-00",
@@ -48,7 +49,11 @@ fn dates() {
     ] {
         refused(&here(&["day", word]), "", 1, word);
         refused(&here(&["picture", word]), "", 1, word);
+        refused(&here(&["eclipse", word]), "", 1, word);
     }
+    // A zone's day has to lie within the years of UTC as a whole.
+    refused(&here(&["eclipse", "1900-01-01", "--zone", "+00:01"]), "", 1, "1900-01-01");
+    refused(&here(&["eclipse", "2100-12-31", "--zone", "-00:01"]), "", 1, "2100-12-31");
     // The words of the old script: a year, a month and a day that a shell would read as octal.
     refused(&here(&["day", "2026", "010", "010"]), "", 2, "010");
     refused(&["day", "2026", "010", "010", "5.2", "45.5", "0"], "", 2, "010");
@@ -103,6 +108,7 @@ fn zones_and_steps() {
         refused(&here(&["day", "2026-08-09", "--zone", word]), "", 2, word);
         refused(&here(&["picture", "2026-08-09", "--zone", word]), "", 2, word);
         refused(&here(&["year", "2026", "--zone", word]), "", 2, word);
+        refused(&here(&["eclipse", "2026-08-12", "--zone", word]), "", 2, word);
     }
     for word in ["0", "-1", "1441", "0.5", "1e1", "0x10", "ten", "", "inf", "010", "99999999999999999999"] {
         refused(&here(&["day", "2026-08-09", "--every", word]), "", 2, word);
@@ -120,6 +126,7 @@ fn degrees() {
     ];
     for word in words {
         refused(&["day", "2026-08-09", "--lat", word, "--lon", "5.2"], "", 2, word);
+        refused(&["eclipse", "2026-08-12", "--lat", word, "--lon", "5.2"], "", 2, word);
         refused(&["place", "sun", "2026-08-09T12:00Z", "--lat", "5.2", "--lon", word], "", 2, word);
     }
     for word in ["5E", "5.2W"] {
@@ -132,6 +139,7 @@ fn degrees() {
         refused(&["day", "2026-08-09", "--lat", word, "--lon", "5.2"], "", 1, word);
         refused(&["picture", "2026-08-09", "--lat", word, "--lon", "5.2"], "", 1, word);
         refused(&["year", "2026", "--lat", word, "--lon", "5.2"], "", 1, word);
+        refused(&["eclipse", "2026-08-12", "--lat", word, "--lon", "5.2"], "", 1, word);
     }
     for word in ["181", "-180.0000001", "360E"] {
         refused(&["day", "2026-08-09", "--lat", "5.2", "--lon", word], "", 1, word);
@@ -156,6 +164,7 @@ fn other_numbers() {
     ] {
         refused(&here(&["day", "2026-08-09", flag, word]), "", 1, word);
         refused(&here(&["year", "2026", flag, word]), "", 1, word);
+        refused(&here(&["eclipse", "2026-08-12", flag, word]), "", 1, word);
     }
     let at = ["place", "sun", "2026-08-09T12:00Z"];
     for word in ["thin", "", "1e3", "inf", "nan", "1013,2", "0.1234567"] {
@@ -203,6 +212,12 @@ fn flags() {
     refused(&here(&["year", "2026", "--csv", "2027"]), "", 2, "2027");
     refused(&["year", "2026", "--lon", "5"], "", 2, "--lat");
     refused(&["middle", "0", "1", "--lat", "5"], "", 2, "--lat");
+    refused(&here(&["eclipse", "2026-08-12", "--every", "60"]), "", 2, "--every");
+    refused(&here(&["eclipse", "2026-08-12", "--svg"]), "", 2, "--svg");
+    refused(&here(&["eclipse", "2026-08-12", "--picture", "--picture"]), "", 2, "--picture");
+    refused(&here(&["eclipse", "2026-08-12", "--picture", "e.svg"]), "", 2, "e.svg");
+    refused(&here(&["day", "2026-08-12", "--picture"]), "", 2, "--picture");
+    refused(&["eclipse", "2026-08-12", "--lon", "5"], "", 2, "--lat");
 }
 
 #[test]
@@ -215,15 +230,31 @@ fn commands() {
         refused(&here(&["place", word, "2026-08-09T12:00Z"]), "", 2, word);
         refused(&here(&["batch", word]), "", 2, word);
     }
-    for words in
-        [&[][..], &["day"], &["place"], &["place", "sun"], &["batch"], &["middle"], &["middle", "0"], &["picture"], &["year"]]
-    {
+    for words in [
+        &[][..],
+        &["day"],
+        &["place"],
+        &["place", "sun"],
+        &["batch"],
+        &["middle"],
+        &["middle", "0"],
+        &["picture"],
+        &["year"],
+        &["eclipse"],
+    ] {
         let output = run(words, b"");
         assert_eq!((output.status.code(), output.stdout.len()), (Some(2), 0), "{words:?}");
         assert!(String::from_utf8(output.stderr).unwrap().contains("missing"), "{words:?}");
     }
-    let output = run(&here(&["day", "2026-08-09", "--json", "--csv"]), b"");
-    assert_eq!((output.status.code(), output.stdout.len()), (Some(2), 0));
+    for words in [
+        &["day", "2026-08-09", "--json", "--csv"][..],
+        &["eclipse", "2026-08-12", "--json", "--picture"],
+        &["eclipse", "2026-08-12", "--picture", "--csv"],
+    ] {
+        let output = run(&here(words), b"");
+        assert_eq!((output.status.code(), output.stdout.len()), (Some(2), 0), "{words:?}");
+        assert!(String::from_utf8(output.stderr).unwrap().contains("only one"), "{words:?}");
+    }
 }
 
 #[cfg(unix)]

@@ -56,10 +56,17 @@ function request(given) {
   put(point, given.slice(10, 13).map(big));
   return [start, code(given[9]), point, code(given[13]), double(given[14]), double(given[15]), lend()];
 }
+function startAndPoint(given) {
+  put(start, given.slice(0, 9).map(big));
+  put(point, given.slice(9).map(big));
+  return [start, point, lend()];
+}
 const objects = (given) => [named(START, given.slice(0, 9).map(big)), code(given[9]), named(POINT, given.slice(10, 13).map(big))];
 const CALLS = {
   place: [2, request, (g) => sky.place(...objects(g), airOf(g.slice(13)))],
   shown_place: [3, request, (g) => sky.shown_place(...objects(g), airOf(g.slice(13)))],
+  eclipse: [4, startAndPoint, (g) => sky.eclipse(named(START, g.slice(0, 9).map(big)), named(POINT, g.slice(9).map(big)))],
+  covered_share: [1, (g) => [...g.map(big), lend()], (g) => sky.covered_share(...g.map(big))],
   instant: [2, (g) => (put(start, g.map(big)), [start, lend()]), (g) => sky.instant(named(START, g.map(big)))],
   middle: [1, (g) => [...g.map(big), lend()], (g) => sky.middle(...g.map(big))],
   refraction: [1, (g) => [big(g[0]), code(g[1]), double(g[2]), double(g[3]), lend()], (g) => sky.refraction(big(g[0]), airOf(g.slice(1)))],

@@ -1,4 +1,4 @@
-// node ports/wasm/calls.mjs RADDLEHUE.WASM : raddlehue.mjs as a page uses it. Its own example, days by the minute against single places, and what it has to throw at.
+// node ports/wasm/calls.mjs RADDLEHUE.WASM : raddlehue.mjs as a page uses it. Its own example, days by the minute against single places, eclipses, and what it has to throw at.
 import assert from 'node:assert/strict';
 import { readFileSync } from 'node:fs';
 import { AIR_NONE, AIR_STANDARD, MOON, SUN, load, measured } from './raddlehue.mjs';
@@ -58,6 +58,19 @@ assert.deepEqual(sky.day({ ...date, day: 32 }, SUN, point), { refusal: 3 });
 assert.deepEqual(sky.day(date, 2, point), { refusal: 101 });
 assert.throws(() => sky.day({ ...date, year: 2003.5 }, SUN, point), RangeError);
 assert.throws(() => sky.day(start.year, SUN, point), TypeError);
+
+// 003, Table 4, its first eclipse; a moment without one; a share by itself, a ring; and refusals
+const pacific = { longitude_e7: 1433617000, latitude_e7: 246117000, height_metres: 0 };
+const morning = { ...start, year: 2009, month: 7, day: 22, hour: 2, minute: 33, second: 0, delta_t_tenths: 664 };
+const whole = { refusal: 0, separation_e8: 45193n, sun_radius_e8: 26236064n, moon_radius_e8: 28346192n, share_millionths: 1000000n };
+assert.deepEqual(sky.eclipse(morning, pacific), whole);
+assert.equal(sky.eclipse(start, point).share_millionths, 0n);
+assert.deepEqual(sky.eclipse({ ...morning, hour: 24 }, pacific), { refusal: 4 });
+assert.deepEqual(sky.covered_share(1000000, 26000000n, 24000000), { refusal: 0, share_millionths: 852071n });
+assert.deepEqual(sky.covered_share(-1, 26000000, 24000000), { refusal: 105 });
+assert.throws(() => sky.eclipse({ ...morning, hour: 2.5 }, pacific), RangeError);
+assert.throws(() => sky.eclipse(morning), TypeError);
+assert.throws(() => sky.covered_share(1000000, 26000000), TypeError);
 
 // what is no number of 64 bits, or of 32, never reaches the module
 for (const year of [2003.5, NaN, Infinity, undefined, null, '', 'x', 2n ** 63n, -(2n ** 63n) - 1n]) {

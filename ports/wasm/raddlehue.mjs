@@ -7,9 +7,9 @@
  *     sky.place(start, SUN, point)                                           // { refusal: 0, azimuth_e8: 19434024073n, elevation_e8: 3987204605n }
  *
  * A call gives an object: `refusal` is 0 and the answer's names stand beside it, or it is the number of the refusal, and (but for the index of a batch) nothing else.
- * Names and numbers are those of include/raddlehue.h and docs/REFUSALS.md; names say their unit (_e7 and _e8 are 1e-7 and 1e-8 degree, _tenths are tenths of a second).
- * Whole numbers may be given as Number or BigInt and come back as BigInt, exact; minutes, degrees, mbar and degrees Celsius are Numbers. What is no whole number, or
- * none of 64 bits, is a TypeError or a RangeError; every other number may be given, and what cannot be answered is refused.
+ * Names and numbers are those of include/raddlehue.h and docs/REFUSALS.md; names say their unit (_e7 and _e8 are 1e-7 and 1e-8 degree, _tenths are tenths of a second,
+ * _millionths are of the Sun's disk). Whole numbers may be given as Number or BigInt and come back as BigInt, exact; minutes, degrees, mbar and degrees Celsius are
+ * Numbers. What is no whole number, or none of 64 bits, is a TypeError or a RangeError; every other number may be given, and what cannot be answered is refused.
  *
  *     place(start, body, point[, air])         azimuth_e8, elevation_e8
  *     shown_place(start, body, point[, air])   azimuth_degrees, elevation_degrees, refraction_degrees
@@ -18,6 +18,10 @@
  *     day(date, body, point)                   elevations_e8: a BigInt64Array, the elevation at each of the date's 1,440 minutes of UTC; rise_minute, set_minute: 0 to 1439,
  *                                              the first at which the body is at or above -0.8333 degree and was not the minute before, and the reverse; where there
  *                                              is none, as on a polar day, the name is missing. A date is { year, month, day, ut1_tenths, delta_t_tenths }
+ *     eclipse(start, point)                    separation_e8, of the two centres; sun_radius_e8, moon_radius_e8; share_millionths, of the Sun's disk that the Moon's covers,
+ *                                              whether they are up or not
+ *     covered_share(separation_e8, sun_radius_e8, moon_radius_e8)
+ *                                              share_millionths, of these three alone
  *     middle(a_e8, b_e8)                       azimuth_e8
  *     refraction(elevation_e8, air)            refraction_degrees: 0 below -0.83337 degree, as in a shown place
  *     day_count(year, month, day)              days
@@ -180,6 +184,17 @@ class Raddlehue {
       if (told[2]) answer.set_minute = told[3];
     }
     return answer;
+  }
+
+  eclipse(start, point) {
+    const refusal = this.#raw.raddlehue_eclipse(this.#start(start), this.#point(point), this.#answer) >>> 0;
+    return this.#units(refusal, 'separation_e8', 'sun_radius_e8', 'moon_radius_e8', 'share_millionths');
+  }
+
+  covered_share(separation_e8, sun_radius_e8, moon_radius_e8) {
+    const refusal = this.#raw.raddlehue_covered_share(
+      whole(separation_e8, 'separation_e8'), whole(sun_radius_e8, 'sun_radius_e8'), whole(moon_radius_e8, 'moon_radius_e8'), this.#answer) >>> 0;
+    return this.#units(refusal, 'share_millionths');
   }
 
   middle(a_e8, b_e8) {

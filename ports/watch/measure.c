@@ -31,7 +31,8 @@ static raddlehue_place_t place;
 static raddlehue_shown_place_t shown;
 static raddlehue_batch_t told;
 static raddlehue_rise_set_t rise_set;
-static int64_t azimuth;
+static raddlehue_eclipse_t eclipses[REQUESTS], *eclipse;
+static int64_t azimuth, share;
 static double degrees;
 
 static void nothing(void) {}
@@ -39,6 +40,8 @@ static void a_place(void) { kept = raddlehue_place(start, body, point, RADDLEHUE
 static void a_shown_place(void) { kept = raddlehue_shown_place(start, body, point, RADDLEHUE_AIR_MEASURED, pressure, temperature, &shown); }
 static void a_batch(void) { kept = raddlehue_batch(start, body, point, offsets, SAMPLES, azimuths, SAMPLES, elevations, SAMPLES, &told); }
 static void a_day(void) { kept = raddlehue_day(&date, body, point, curve, &rise_set); }
+static void an_eclipse(void) { kept = raddlehue_eclipse(start, point, eclipse); }
+static void a_covered_share(void) { kept = raddlehue_covered_share(eclipse->separation_e8, eclipse->sun_radius_e8, eclipse->moon_radius_e8, &share); }
 static void a_refraction(void) { kept = raddlehue_refraction(elevation, RADDLEHUE_AIR_MEASURED, pressure, temperature, &degrees); }
 static void a_middle(void) { kept = raddlehue_middle(a, b, &azimuth); }
 
@@ -73,6 +76,7 @@ static void choose(int i) {
     start = (const raddlehue_start_t *)(const void *)n;
     point = (const raddlehue_point_t *)(const void *)(n + 9);
     date = (raddlehue_date_t){start->year, start->month, start->day, start->ut1_tenths, start->delta_t_tenths};
+    eclipse = &eclipses[i];
     elevation = n[10] * 10, a = n[9] + 1800000000, b = n[10] * 10 + 9000000000;
 }
 
@@ -128,5 +132,14 @@ int main(void) {
     }
     row("refraction", a_refraction, REQUESTS, 1);
     row("middle", a_middle, REQUESTS, 1);
+    /* where nothing is covered, the share would cost next to nothing */
+    for (int i = 0; i < REQUESTS;) {
+        near_eclipse(request[i]);
+        choose(i);
+        an_eclipse();
+        i += eclipse->share_millionths > 0;
+    }
+    row("eclipse", an_eclipse, REQUESTS, 1);
+    row("covered_share", a_covered_share, REQUESTS, 1);
     return 0;
 }

@@ -1,5 +1,6 @@
 // The ordinary Rust version (reference/) behind the functions of include/raddlehue.h, to be measured beside the module on the same processor. ports/watch/ordinary
 // compiles it as a part of reference/, so that there is one crate.
+use crate::eclipse::are_disks;
 use crate::instant::Instant;
 use crate::request::check_air;
 
@@ -116,6 +117,21 @@ pub extern "C" fn raddlehue_day(n: &[i64; 5], body: u32, point: &[i64; 3], eleva
     let found = day(date, body_of(body), point_of(point), elevations);
     let told = found.map(|found| [found.rise, found.set].map(|minute| minute.map_or([0, 0], |minute| [1, minute as u32])));
     write(told.map(|[rise, set]| [rise[0], rise[1], set[0], set[1]]), lent)
+}
+
+#[no_mangle]
+pub extern "C" fn raddlehue_eclipse(start: &[i64; 9], point: &[i64; 3], lent: &mut [i64; 4]) -> u32 {
+    let found = eclipse(start_of(start), point_of(point));
+    write(found.map(|found| [found.separation, found.sun_radius, found.moon_radius, found.share]), lent)
+}
+
+#[no_mangle]
+pub extern "C" fn raddlehue_covered_share(separation: i64, sun_radius: i64, moon_radius: i64, lent: &mut i64) -> u32 {
+    if !are_disks(separation, sun_radius, moon_radius) {
+        return 105;
+    }
+    *lent = covered_share(separation, sun_radius, moon_radius);
+    0
 }
 
 #[no_mangle]

@@ -17,6 +17,7 @@
 pub mod batch;
 pub mod calendar;
 pub mod day;
+pub mod eclipse;
 pub mod heading;
 pub mod instant;
 pub mod moon;
@@ -33,6 +34,7 @@ pub mod tables;
 pub use batch::batch;
 pub use calendar::day_count;
 pub use day::{day, Date, RiseSet};
+pub use eclipse::{covered_share, eclipse, Eclipse};
 pub use heading::middle;
 pub use moon::{moon, Moon};
 pub use numbers::{arctangent, cosine, root, sine};

@@ -1,13 +1,13 @@
 //! From the Earth's centre to the runner: azimuth and elevation at a point.
 
 use crate::instant::{Instant, Time};
-use crate::moon::moon_at;
+use crate::moon::{moon_at, Moon};
 use crate::numbers::{arctangent, floor_div, root, scaled, sine_cosine, HALF_TURN, ONE, QUARTER_TURN, TURN};
 use crate::nutation::nutation_at;
 use crate::refraction::refraction;
 use crate::request::{check_air, check_point, Air, Body, Point, Start};
 use crate::sidereal::apparent_sidereal;
-use crate::sun::{self, sun_at};
+use crate::sun::{self, sun_at, Sun};
 
 /// The Earth's equatorial radius, metres.
 const EARTH_RADIUS: i64 = 6_378_140;
@@ -52,17 +52,69 @@ fn degrees(angle: i64) -> f64 {
 
 /// A body from the Earth's centre: apparent ecliptic longitude and latitude (10⁻⁸ degree, longitude not reduced)
 /// and the sine of its parallax (times 10⁹).
-struct Apparent {
+pub(crate) struct Apparent {
     longitude: i64,
     latitude: i64,
-    parallax: i64,
+    pub(crate) parallax: i64,
 }
 
 /// A vector of sine-scaled numbers.
-struct Vector {
-    x: i64,
-    y: i64,
-    z: i64,
+pub(crate) struct Vector {
+    pub(crate) x: i64,
+    pub(crate) y: i64,
+    pub(crate) z: i64,
+}
+
+/// What the place path needs of an instant, the same for both bodies and for every point.
+pub(crate) struct Sky {
+    pub(crate) time: Time,
+    nutation_longitude: i64,
+    obliquity_sine: i64,
+    obliquity_cosine: i64,
+    /// Apparent sidereal time at Greenwich, 10⁻⁸ degree, not reduced.
+    sidereal: i64,
+}
+
+impl Sky {
+    /// The sky at an accepted instant.
+    pub(crate) fn new(instant: &Instant) -> Self {
+        let time = Time::new(instant.tt);
+        let nutation = nutation_at(&time);
+        let (sin, cos) = sine_cosine(nutation.true_obliquity);
+        Self {
+            time,
+            nutation_longitude: nutation.longitude,
+            obliquity_sine: sin,
+            obliquity_cosine: cos,
+            sidereal: apparent_sidereal(instant.ut, nutation.longitude, cos),
+        }
+    }
+
+    pub(crate) fn sun(&self, sun: &Sun) -> Apparent {
+        let (longitude, latitude) = sun::apparent(sun, self.nutation_longitude);
+        Apparent { longitude, latitude, parallax: sun::parallax(sun) }
+    }
+
+    pub(crate) fn moon(&self, moon: &Moon) -> Apparent {
+        Apparent {
+            longitude: moon.longitude + self.nutation_longitude,
+            latitude: moon.latitude,
+            parallax: floor_div(EARTH_RADIUS * ONE, moon.metres),
+        }
+    }
+
+    /// The unit vector of a body, turned from the ecliptic to the equator.
+    fn equatorial(&self, body: &Apparent) -> Vector {
+        let (longitude_sin, longitude_cos) = sine_cosine(body.longitude);
+        let (z, latitude_cos) = sine_cosine(body.latitude);
+        let x = scaled(latitude_cos, longitude_cos);
+        let y = scaled(latitude_cos, longitude_sin);
+        Vector {
+            x,
+            y: scaled(y, self.obliquity_cosine) - scaled(z, self.obliquity_sine),
+            z: scaled(y, self.obliquity_sine) + scaled(z, self.obliquity_cosine),
+        }
+    }
 }
 
 /// What the place path needs of a point, worked once for any number of looks.
@@ -93,23 +145,31 @@ impl Observer {
 
     /// The place of a body at an accepted instant.
     pub(crate) fn look(&self, body: Body, instant: &Instant) -> Place {
-        let time = Time::new(instant.tt);
-        let nutation = nutation_at(&time);
-        let (obliquity_sin, obliquity_cos) = sine_cosine(nutation.true_obliquity);
-        let apparent = apparent(body, &time, nutation.longitude);
-        let sky = equatorial(&apparent, obliquity_sin, obliquity_cos);
-        let sidereal = apparent_sidereal(instant.ut, nutation.longitude, obliquity_cos);
-        self.horizontal(&sky, apparent.parallax, sidereal)
+        let sky = Sky::new(instant);
+        let apparent = match body {
+            Body::Sun => sky.sun(&sun_at(&sky.time)),
+            Body::Moon => sky.moon(&moon_at(&sky.time)),
+        };
+        self.horizontal(&self.direction(&sky, &apparent))
     }
 
-    /// Turns an equatorial vector to the point's meridian, takes off the parallax, and tilts it to the horizon.
-    fn horizontal(&self, sky: &Vector, parallax: i64, sidereal: i64) -> Place {
-        let (sin, cos) = sine_cosine(sidereal + self.longitude);
-        let a = scaled(sky.x, cos) + scaled(sky.y, sin) - scaled(parallax, self.from_axis);
-        let east = scaled(sky.y, cos) - scaled(sky.x, sin);
-        let z = sky.z - scaled(parallax, self.from_equator);
-        let up = scaled(a, self.latitude_cosine) + scaled(z, self.latitude_sine);
-        let north = scaled(z, self.latitude_cosine) - scaled(a, self.latitude_sine);
+    /// The direction of a body after the parallax: x to the equator on the point's meridian, y east, z along the
+    /// Earth's axis to the north. The parallax shortens or lengthens it, and it is left so.
+    pub(crate) fn direction(&self, sky: &Sky, body: &Apparent) -> Vector {
+        let from_centre = sky.equatorial(body);
+        let (sin, cos) = sine_cosine(sky.sidereal + self.longitude);
+        Vector {
+            x: scaled(from_centre.x, cos) + scaled(from_centre.y, sin) - scaled(body.parallax, self.from_axis),
+            y: scaled(from_centre.y, cos) - scaled(from_centre.x, sin),
+            z: from_centre.z - scaled(body.parallax, self.from_equator),
+        }
+    }
+
+    /// A direction tilted to the horizon.
+    pub(crate) fn horizontal(&self, direction: &Vector) -> Place {
+        let &Vector { x, y: east, z } = direction;
+        let up = scaled(x, self.latitude_cosine) + scaled(z, self.latitude_sine);
+        let north = scaled(z, self.latitude_cosine) - scaled(x, self.latitude_sine);
         let level = root((north * north) as u64 + (east * east) as u64);
         Place { azimuth: arctangent(east, north), elevation: signed_elevation(arctangent(up, level as i64)) }
     }
@@ -118,37 +178,6 @@ impl Observer {
 /// A sine times 1 less the Earth's flattening.
 fn flattened(sine: i64) -> i64 {
     floor_div(99_664_719 * sine, 100_000_000)
-}
-
-fn apparent(body: Body, time: &Time, nutation_longitude: i64) -> Apparent {
-    match body {
-        Body::Sun => {
-            let sun = sun_at(time);
-            let (longitude, latitude) = sun::apparent(&sun, nutation_longitude);
-            Apparent { longitude, latitude, parallax: sun::parallax(&sun) }
-        }
-        Body::Moon => {
-            let moon = moon_at(time);
-            Apparent {
-                longitude: moon.longitude + nutation_longitude,
-                latitude: moon.latitude,
-                parallax: floor_div(EARTH_RADIUS * ONE, moon.metres),
-            }
-        }
-    }
-}
-
-/// The unit vector of a body, turned from the ecliptic to the equator.
-fn equatorial(body: &Apparent, obliquity_sin: i64, obliquity_cos: i64) -> Vector {
-    let (longitude_sin, longitude_cos) = sine_cosine(body.longitude);
-    let (z, latitude_cos) = sine_cosine(body.latitude);
-    let x = scaled(latitude_cos, longitude_cos);
-    let y = scaled(latitude_cos, longitude_sin);
-    Vector {
-        x,
-        y: scaled(y, obliquity_cos) - scaled(z, obliquity_sin),
-        z: scaled(y, obliquity_sin) + scaled(z, obliquity_cos),
-    }
 }
 
 /// A reduced angle as an elevation: below zero from half a turn up, kept within ±90 degrees.

@@ -10,6 +10,9 @@ use raddlehue_reference::moon::arguments;
 use raddlehue_reference::tables::{ARCTANGENT, SINE};
 use raddlehue_reference::*;
 
+mod random;
+use random::Random;
+
 const TURN: i128 = 36_000_000_000;
 const BILLION: i128 = 1_000_000_000;
 const CENTURY: i128 = 31_557_600_000;
@@ -166,23 +169,28 @@ impl Plain {
         [psi, epsilon, mean + epsilon]
     }
 
-    fn place(&self, body: Body, instant: &Instant, point: &Point) -> [i128; 2] {
-        let (ut, tt) = (i128::from(instant.ut), i128::from(instant.tt));
-        let times = |a: i128, b: i128| floor(a * b, BILLION);
-        let [psi, _, epsilon] = self.nutation(tt);
-        let (l, t, p) = match body {
+    /// Longitude and latitude of a body from the Earth's centre, its parallax, and metres or R.
+    fn apparent(&self, body: Body, tt: i128, psi: i128) -> [i128; 4] {
+        match body {
             Body::Moon => {
                 let [longitude, latitude, metres] = self.moon(tt);
-                (longitude + psi, latitude, floor(6_378_140 * BILLION, metres))
+                [longitude + psi, latitude, floor(6_378_140 * BILLION, metres), metres]
             }
             Body::Sun => {
                 let [l, b, r] = self.sun(tt);
                 let l = floor(l.rem_euclid(62_831_853_072) * 5_729_577_951, 10 * BILLION);
                 let b = floor(b * 5_729_577_951, 10 * BILLION);
                 let aberration = floor(-569_161 * 10 * BILLION, r);
-                (l + TURN / 2 + psi + aberration, -b, floor(42_635 * 10 * BILLION, r))
+                [l + TURN / 2 + psi + aberration, -b, floor(42_635 * 10 * BILLION, r), r]
             }
-        };
+        }
+    }
+
+    /// The vector after the parallax, the parallax, and metres or R.
+    fn direction(&self, body: Body, instant: &Instant, point: &Point) -> ([i128; 3], i128, i128) {
+        let (ut, tt) = (i128::from(instant.ut), i128::from(instant.tt));
+        let [psi, _, epsilon] = self.nutation(tt);
+        let [l, t, p, distance] = self.apparent(body, tt, psi);
         let cos_t = plain_cosine(t);
         let (x, y0, z0) = (times(cos_t, plain_cosine(l)), times(cos_t, plain_sine(l)), plain_sine(t));
         let (cos_e, sin_e) = (plain_cosine(epsilon), plain_sine(epsilon));
@@ -190,19 +198,85 @@ impl Plain {
         let theta = plain_sidereal(ut) + times(psi, cos_e) + 10 * i128::from(point.longitude);
         let (cos_h, sin_h) = (plain_cosine(theta), plain_sine(theta));
         let (a, b) = (times(x, cos_h) + times(y, sin_h), times(y, cos_h) - times(x, sin_h));
-        let phi = 10 * i128::from(point.latitude);
-        let (cos_p, sin_p, height) = (plain_cosine(phi), plain_sine(phi), i128::from(point.height));
+        let (cos_p, sin_p, height) = (plain_cosine(phi(point)), plain_sine(phi(point)), i128::from(point.height));
         let w = plain_arctangent(floor(99_664_719 * sin_p, 100_000_000), cos_p);
         let f = plain_cosine(w) + floor(height * cos_p, 6_378_140);
         let g = floor(99_664_719 * plain_sine(w), 100_000_000) + floor(height * sin_p, 6_378_140);
-        let (a, z) = (a - times(p, f), z - times(p, g));
-        let up = times(a, cos_p) + times(z, sin_p);
-        let north = times(z, cos_p) - times(a, sin_p);
-        let level = (north * north + b * b).isqrt();
-        let elevation = plain_arctangent(up, level);
-        let elevation = if elevation >= TURN / 2 { elevation - TURN } else { elevation };
-        [plain_arctangent(b, north), elevation.clamp(-TURN / 4, TURN / 4)]
+        ([a - times(p, f), b, z - times(p, g)], p, distance)
     }
+
+    fn place(&self, body: Body, instant: &Instant, point: &Point) -> [i128; 2] {
+        plain_horizontal(self.direction(body, instant, point).0, point)
+    }
+
+    fn eclipse(&self, instant: &Instant, point: &Point) -> [i128; 4] {
+        let (s, _, r) = self.direction(Body::Sun, instant, point);
+        let (m, p, metres) = self.direction(Body::Moon, instant, point);
+        let cross = |i: usize, j: usize| times(s[i], m[j]) - times(s[j], m[i]);
+        let length = (cross(1, 2).pow(2) + cross(2, 0).pow(2) + cross(0, 1).pow(2)).isqrt();
+        let dot = times(s[0], m[0]) + times(s[1], m[1]) + times(s[2], m[2]);
+        let d = plain_short(length, dot);
+        let rs = floor(95_963 * 100_000 * BILLION, 36 * r);
+        let [_, e] = plain_horizontal(m, point);
+        let rm = floor(358_473_400 * (BILLION + times(p, plain_sine(e))), 36 * metres);
+        [d, rs, rm, plain_share(d, rs, rm)]
+    }
+}
+
+/// The product of two sine-scaled numbers.
+fn times(a: i128, b: i128) -> i128 {
+    floor(a * b, BILLION)
+}
+
+/// The point's latitude.
+fn phi(point: &Point) -> i128 {
+    10 * i128::from(point.latitude)
+}
+
+/// Azimuth and elevation of the vector after the parallax.
+fn plain_horizontal([a, b, z]: [i128; 3], point: &Point) -> [i128; 2] {
+    let (cos_p, sin_p) = (plain_cosine(phi(point)), plain_sine(phi(point)));
+    let up = times(a, cos_p) + times(z, sin_p);
+    let north = times(z, cos_p) - times(a, sin_p);
+    let level = (north * north + b * b).isqrt();
+    let elevation = plain_arctangent(up, level);
+    let elevation = if elevation >= TURN / 2 { elevation - TURN } else { elevation };
+    [plain_arctangent(b, north), elevation.clamp(-TURN / 4, TURN / 4)]
+}
+
+/// The arctangent, or a whole turn less it where that is smaller.
+fn plain_short(y: i128, x: i128) -> i128 {
+    let angle = plain_arctangent(y, x);
+    if TURN - angle < angle {
+        TURN - angle
+    } else {
+        angle
+    }
+}
+
+/// docs/ECLIPSE.md, section 4.
+fn plain_share(d: i128, rs: i128, rm: i128) -> i128 {
+    if d >= rs + rm {
+        return 0;
+    }
+    if rm >= rs && d <= rm - rs {
+        return 1_000_000;
+    }
+    if rm < rs && d <= rs - rm {
+        return floor(1_000_000 * rm * rm, rs * rs);
+    }
+    let k = floor((rs + rm - d) * (d + rm - rs), 2 * d);
+    let moon_piece = plain_piece(rs + rm - d - k, rm);
+    let lens = plain_piece(k, rs) + floor(floor(moon_piece * rm, rs) * rm, rs);
+    if lens < 0 {
+        return 0;
+    }
+    floor(lens, 1_000).min(1_000_000)
+}
+
+fn plain_piece(k: i128, r: i128) -> i128 {
+    let omega = plain_short((k * (2 * r - k)).isqrt(), r - k);
+    floor(omega, 18) - floor(159_154_943 * plain_sine(2 * omega), BILLION)
 }
 
 fn plain_sidereal(ut: i128) -> i128 {
@@ -218,17 +292,7 @@ fn powers(n: i128) -> [i128; 4] {
     [u, p2, floor(p2 * u, 1_000_000), floor(p2 * p2, 1_000_000)]
 }
 
-/// A generator of whole numbers between two bounds, both included.
-struct Random(u64);
-
 impl Random {
-    fn within(&mut self, first: i64, last: i64) -> i64 {
-        self.0 ^= self.0 << 13;
-        self.0 ^= self.0 >> 7;
-        self.0 ^= self.0 << 17;
-        first + (self.0 % (last - first + 1) as u64) as i64
-    }
-
     /// One of the bounds a third of the time.
     fn edgy(&mut self, first: i64, last: i64) -> i64 {
         match self.within(0, 5) {
@@ -311,6 +375,44 @@ fn places() {
         }
     }
     assert!(FIRST_TT <= first && last <= LAST_TT);
+}
+
+/// From any point at any instant, and near the middle of the eclipse of 2009-07-22, where the share is not 0.
+#[test]
+fn eclipses() {
+    let plain = Plain::new();
+    let mut random = Random(61);
+    let mut covered = 0;
+    for turn in 0..1_000 {
+        let (mut start, mut point) = (random.start(), random.point());
+        if turn % 2 == 0 {
+            start = Start { year: 2009, month: 7, day: 22, hour: 2, delta_t: 664, ..start };
+            let (longitude, latitude) = (random.within(1_300_000_000, 1_600_000_000), random.within(0, 400_000_000));
+            point = Point { longitude, latitude, ..point };
+        }
+        let Eclipse { separation, sun_radius, moon_radius, share } = eclipse(start, point).unwrap();
+        let expected = plain.eclipse(&Instant::new(&start).unwrap(), &point);
+        let got = [separation, sun_radius, moon_radius, share].map(i128::from);
+        assert_eq!(got, expected, "{start:?} {point:?}");
+        covered += usize::from(share > 0);
+    }
+    assert!(covered > 400, "{covered}");
+}
+
+#[test]
+fn shares() {
+    let mut random = Random(59);
+    for _ in 0..100_000 {
+        let sun = random.edgy(20_000_000, 30_000_000);
+        let moon = if random.within(0, 3) == 0 {
+            sun.min(29_999_997) + random.within(0, 3)
+        } else {
+            random.edgy(0, 30_000_000)
+        };
+        let separation = (random.edgy((sun - moon).abs(), sun + moon) + random.within(-3, 3)).max(0);
+        let expected = plain_share(separation.into(), sun.into(), moon.into());
+        assert_eq!(i128::from(covered_share(separation, sun, moon)), expected, "{separation} {sun} {moon}");
+    }
 }
 
 #[test]

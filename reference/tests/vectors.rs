@@ -1,24 +1,21 @@
 //! Every line of the repository's vectors, to the last unit and the last bit.
 
 use std::collections::BTreeMap;
-use std::fs;
-use std::path::Path;
 
+use raddlehue_reference::eclipse::are_disks;
 use raddlehue_reference::*;
+
+mod lines;
+use lines::{exactly, read, start_and_point, whole, wholes};
 
 #[allow(dead_code)]
 #[path = "../examples/days.rs"]
 mod day_lines;
 
-fn read(name: &str) -> String {
-    let path = Path::new(env!("CARGO_MANIFEST_DIR")).join("../tests/vectors").join(name);
-    fs::read_to_string(path).expect("the vectors are in the repository")
-}
-
 /// Checks every line of a file but its comments, and gives the count of lines of each kind.
 fn check_file(name: &str) -> BTreeMap<String, usize> {
     let mut counts = BTreeMap::new();
-    for line in read(name).lines().filter(|line| !line.starts_with('#')) {
+    for line in read(&format!("vectors/{name}")).lines().filter(|line| !line.starts_with('#')) {
         let (kind, rest) = line.split_once(' ').expect("a kind, then its numbers");
         let (input, answer) = rest.split_once('|').expect("a question and an answer");
         match kind {
@@ -31,6 +28,8 @@ fn check_file(name: &str) -> BTreeMap<String, usize> {
             "refr" => check_refraction(input, answer),
             "sheet" => check_sheet(input, answer),
             "batch" => check_batch(input, answer),
+            "eclipse" => check_eclipse(input, answer),
+            "share" => check_share(input, answer),
             other => panic!("unknown kind {other}"),
         }
         *counts.entry(kind.to_string()).or_insert(0) += 1;
@@ -69,8 +68,13 @@ fn horizon() {
 }
 
 #[test]
+fn eclipses() {
+    assert_eq!(check_file("eclipses.txt"), counted(&[("eclipse", 121), ("share", 61)]));
+}
+
+#[test]
 fn days() {
-    let text = read("days.txt");
+    let text = read("vectors/days.txt");
     for line in text.lines() {
         assert_eq!(day_lines::answered(line).as_deref(), Some(line));
     }
@@ -83,18 +87,6 @@ fn body(word: &str) -> Body {
         "moon" => Body::Moon,
         other => panic!("unknown body {other}"),
     }
-}
-
-fn whole(word: &str) -> i64 {
-    word.parse().unwrap_or_else(|_| panic!("not a whole number: {word}"))
-}
-
-fn wholes(text: &str) -> Vec<i64> {
-    text.split_whitespace().map(whole).collect()
-}
-
-fn exactly<const N: usize>(text: &str) -> [i64; N] {
-    wholes(text).try_into().unwrap_or_else(|_| panic!("not {N} numbers: {text}"))
 }
 
 fn double(word: &str) -> f64 {
@@ -116,16 +108,6 @@ fn air(words: &[&str]) -> Air {
     }
 }
 
-/// A start and a point from twelve numbers.
-fn start_and_point(words: &[&str]) -> (Start, Point) {
-    let numbers: Vec<i64> = words.iter().map(|word| whole(word)).collect();
-    let [year, month, day, hour, minute, second, tenth, ut1, delta_t, longitude, latitude, height] = numbers[..] else {
-        panic!("not twelve numbers: {words:?}");
-    };
-    let start = Start { year, month, day, hour, minute, second, tenth, ut1, delta_t };
-    (start, Point { longitude, latitude, height })
-}
-
 fn check_sums(input: &str, answer: &str) {
     let [tt] = exactly(input);
     let [longitude, latitude, metres, l, b, r, psi, epsilon, obliquity, sidereal] = exactly(&answer.replace('|', " "));
@@ -138,7 +120,7 @@ fn check_sums(input: &str, answer: &str) {
 
 fn check_place(body: Body, input: &str, answer: &str) {
     let words: Vec<&str> = input.split_whitespace().collect();
-    let (start, point) = start_and_point(&words[..12]);
+    let (start, point) = start_and_point(&words[..12].join(" "));
     let air = air(&words[12..]);
     let answer: Vec<&str> = answer.split_whitespace().collect();
     let [refusal, azimuth, elevation, shown @ ..] = &answer[..] else { panic!("too short: {answer:?}") };
@@ -196,7 +178,7 @@ fn check_sheet(input: &str, answer: &str) {
 fn check_batch(input: &str, answer: &str) {
     let (request, offsets) = input.split_once(';').expect("a request and offsets");
     let words: Vec<&str> = request.split_whitespace().collect();
-    let (start, point) = start_and_point(&words[1..13]);
+    let (start, point) = start_and_point(&words[1..13].join(" "));
     let offsets: Vec<u32> = wholes(offsets).into_iter().map(|offset| offset.try_into().expect("an offset")).collect();
     let mut azimuths = vec![-7; words[13].parse().expect("a length")];
     let mut elevations = vec![-8; words[14].parse().expect("a length")];
@@ -206,4 +188,24 @@ fn check_batch(input: &str, answer: &str) {
     };
     let parts: Vec<Vec<i64>> = answer.split(';').map(wholes).collect();
     assert_eq!(parts, [vec![refusal as i64, index as i64, count as i64], azimuths, elevations], "batch{input}");
+}
+
+fn check_eclipse(input: &str, answer: &str) {
+    let (start, point) = start_and_point(input);
+    let got = match eclipse(start, point) {
+        Ok(found) => vec![0, found.separation, found.sun_radius, found.moon_radius, found.share],
+        Err(number) => vec![number.into()],
+    };
+    assert_eq!(got, wholes(answer), "eclipse {input}");
+}
+
+/// Refusal 105 is C's, for three numbers that this library is not asked for.
+fn check_share(input: &str, answer: &str) {
+    let [separation, sun_radius, moon_radius] = exactly(input);
+    let got = if are_disks(separation, sun_radius, moon_radius) {
+        vec![0, covered_share(separation, sun_radius, moon_radius)]
+    } else {
+        vec![105]
+    };
+    assert_eq!(got, wholes(answer), "share {input}");
 }

@@ -1,7 +1,7 @@
 //! The archive's exports, and all the `unsafe` of this package: `include/raddlehue.h` says what each means.
 #![allow(unsafe_code)]
 
-use crate::{Date, Instant, MoonSums, Nutation, Place, Point, Shown, Start, SunSums, DAY_MINUTES};
+use crate::{Date, Eclipse, Instant, MoonSums, Nutation, Place, Point, Shown, Start, SunSums, DAY_MINUTES};
 
 /// What a batch tells beside its refusal.
 #[repr(C)]
@@ -30,6 +30,7 @@ const _: () = {
     assert!(size_of::<Batch>() == 16);
     assert!(size_of::<Date>() == 40);
     assert!(size_of::<RiseSet>() == 16);
+    assert!(size_of::<Eclipse>() == 32);
     assert!(size_of::<Instant>() == 16);
     assert!(size_of::<MoonSums>() == 24);
     assert!(size_of::<SunSums>() == 24);
@@ -75,6 +76,13 @@ unsafe extern "C" {
         point: &Point,
         elevations_e8: &mut [i64; DAY_MINUTES],
         rise_set: &mut RiseSet,
+    ) -> u32;
+    pub safe fn raddlehue_eclipse(start: &Start, point: &Point, eclipse: &mut Eclipse) -> u32;
+    pub safe fn raddlehue_covered_share(
+        separation_e8: i64,
+        sun_radius_e8: i64,
+        moon_radius_e8: i64,
+        share_millionths: &mut i64,
     ) -> u32;
     pub safe fn raddlehue_middle(a_e8: i64, b_e8: i64, azimuth_e8: &mut i64) -> u32;
     pub safe fn raddlehue_refraction(

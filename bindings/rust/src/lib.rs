@@ -17,7 +17,8 @@
 //! - **Azimuth** counts from north over east: east is 90 degrees, south 180.
 //! - **Longitude** is east positive, and latitude north positive.
 //! - **Time** is UTC, never a local zone. UT1 minus UTC and delta-T (TT minus UT1) are the caller's to give, in tenths of a second.
-//! - **Names say their unit**, as in the C header: `_e7` and `_e8` are 10⁻⁷ and 10⁻⁸ degree, `_e10` is 10⁻¹⁰, `_tenths` are tenths of a second.
+//! - **Names say their unit**, as in the C header: `_e7` and `_e8` are 10⁻⁷ and 10⁻⁸ degree, `_e10` is 10⁻¹⁰, `_tenths` are tenths of a second, `_millionths` are of
+//!   the Sun's disk.
 //!
 //! No function keeps state, reads a clock or panics; each takes about 8 KiB of stack at most, [`rise_set`] 11.5 KB more for its curve. Every number may be given, and what
 //! cannot be answered is a [`Refusal`].
@@ -40,6 +41,7 @@ mod archive;
 #[cfg(feature = "std")]
 mod clock;
 mod day;
+mod eclipse;
 mod places;
 mod refusal;
 mod request;
@@ -47,6 +49,7 @@ mod sums;
 
 pub use angles::{arctangent, cosine, middle, refraction, root, sine, LOWEST_REFRACTED_E8};
 pub use day::{day, rise_set, RiseSet, DAY_MINUTES, RISE_SET_E8};
+pub use eclipse::{covered_share, eclipse, Eclipse};
 #[cfg(feature = "alloc")]
 pub use places::places;
 pub use places::{place, places_into, shown_place, Place, Shown};

@@ -26,6 +26,8 @@ pub enum Refusal {
     NoElevation,
     /// 104: the instant of a sum is not within 31,904,733,600 tenths of a second (101.1 years) of 2000-01-01 12:00.
     OutOfReach,
+    /// 105: the separation is not 0 to 18,000,000,000 of 10⁻⁸ degree, the Sun's radius not 20,000,000 to 30,000,000, or the Moon's not 0 to 30,000,000.
+    NoDisks,
     /// 16: a line that a program reads is not whole numbers with single spaces; no function of this package gives it.
     NotALine,
     /// 1: the year (Gregorian, UTC) is not 1900 to 2100.
@@ -66,11 +68,12 @@ pub enum Refusal {
 }
 
 // All that have a name, in the order of the checks.
-const NAMED: [Refusal; 20] = [
+const NAMED: [Refusal; 21] = [
     Refusal::UnknownBody,
     Refusal::UnknownAir,
     Refusal::NoElevation,
     Refusal::OutOfReach,
+    Refusal::NoDisks,
     Refusal::NotALine,
     Refusal::Year,
     Refusal::Month,
@@ -99,6 +102,11 @@ impl Refusal {
             Refusal::OutOfReach => {
                 (104, "OUT_OF_REACH", "the instant is not within 31,904,733,600 tenths of a second of 2000-01-01 12:00")
             }
+            Refusal::NoDisks => (
+                105,
+                "NO_DISKS",
+                "the separation is not 0 to 180 degrees, the Sun's radius not 0.2 to 0.3 or the Moon's not 0 to 0.3",
+            ),
             Refusal::NotALine => (16, "NOT_A_LINE", "the line is not whole numbers with single spaces"),
             Refusal::Year => (1, "YEAR", "the year is not 1900 to 2100"),
             Refusal::Month => (2, "MONTH", "the month is not 1 to 12"),

@@ -98,6 +98,9 @@ fn each_refusal_of_a_request() {
         (START, POINT, measured(820.0, f64::NAN), Refusal::Temperature),
     ];
     for (start, point, air, refusal) in requests {
+        if refusal.number() < Refusal::Pressure.number() {
+            assert_eq!(eclipse(start, point), Err(refusal));
+        }
         for body in [Body::Sun, Body::Moon] {
             assert_eq!(place(start, body, point, air), Err(refusal));
             assert_eq!(shown_place(start, body, point, air), Err(refusal));
@@ -120,6 +123,7 @@ fn the_first_refusal_is_given() {
     let nowhere = Point { longitude_e7: i64::MIN, latitude_e7: i64::MAX, height_metres: i64::MIN };
     let air = measured(f64::NAN, f64::NAN);
     assert_eq!(place(worst, Body::Sun, nowhere, air), Err(Refusal::Year));
+    assert_eq!(eclipse(worst, nowhere), Err(Refusal::Year));
     assert_eq!(shown_place(START, Body::Moon, nowhere, air), Err(Refusal::Longitude));
     assert_eq!(shown_place(START, Body::Moon, POINT, air), Err(Refusal::Pressure));
     assert_eq!(refraction(i64::MAX, air), Err(Refusal::NoElevation));
@@ -239,6 +243,56 @@ fn a_refused_day_keeps_the_curve() {
             assert_eq!(rise_set(date, body, point), Err(refusal));
         }
         assert_eq!(elevations, [-7; DAY_MINUTES]);
+    }
+}
+
+// ---- eclipses
+
+// 003, Table 4, its first and its last: the whole Sun, and a ring.
+#[test]
+fn eclipses_of_the_report() {
+    let whole = eclipse(Start::utc(2009, 7, 22, 2, 33, 0).delta_t_tenths(664), Point::east_north(143.3617, 24.6117, 0));
+    let ring = eclipse(Start::utc(1981, 2, 4, 21, 57, 36).delta_t_tenths(515), Point::east_north(-145.9033, -45.8883, 0));
+    for (found, [separation_e8, sun_radius_e8, moon_radius_e8, share_millionths]) in
+        [(whole, [45_193, 26_236_064, 28_346_192, 1_000_000]), (ring, [76_975, 27_034_383, 26_874_029, 988_172])]
+    {
+        assert_eq!(found, Ok(Eclipse { separation_e8, sun_radius_e8, moon_radius_e8, share_millionths }));
+        assert_eq!(covered_share(separation_e8, sun_radius_e8, moon_radius_e8), Ok(share_millionths));
+    }
+}
+
+#[test]
+fn most_moments_have_no_eclipse() {
+    let apart = eclipse(START, POINT).unwrap();
+    assert!(apart.separation_e8 > apart.sun_radius_e8 + apart.moon_radius_e8);
+    assert_eq!(apart.share_millionths, 0);
+}
+
+// The whole Sun, a ring, a part of it (003, Table A.1.2, without refraction), and nothing, from a unit before the disks touch.
+#[test]
+fn covered_shares() {
+    assert_eq!(covered_share(2_000_000, 26_000_000, 28_000_000), Ok(1_000_000));
+    assert_eq!(covered_share(1_000_000, 26_000_000, 24_000_000), Ok(852_071));
+    assert_eq!(covered_share(37_487_637, 26_235_977, 28_334_136), Ok(216_151));
+    for separation in [49_999_999, 50_000_000, 50_000_001, 180 * DEGREE_E8] {
+        assert_eq!(covered_share(separation, 26_000_000, 24_000_000), Ok(0));
+    }
+}
+
+#[test]
+fn shares_of_no_disks_are_refused() {
+    for separation in [i64::MIN, -1, 180 * DEGREE_E8 + 1, i64::MAX] {
+        assert_eq!(covered_share(separation, 26_000_000, 24_000_000), Err(Refusal::NoDisks));
+    }
+    for sun_radius in [i64::MIN, 0, 19_999_999, 30_000_001, i64::MAX] {
+        assert_eq!(covered_share(0, sun_radius, 24_000_000), Err(Refusal::NoDisks));
+    }
+    for moon_radius in [i64::MIN, -1, 30_000_001, i64::MAX] {
+        assert_eq!(covered_share(0, 26_000_000, moon_radius), Err(Refusal::NoDisks));
+    }
+    for sun_radius in [20_000_000, 30_000_000] {
+        assert_eq!(covered_share(0, sun_radius, 30_000_000), Ok(1_000_000));
+        assert_eq!(covered_share(0, sun_radius, 0), Ok(0));
     }
 }
 

@@ -20,7 +20,7 @@ pub fn drawn(story: &Story, centre: f64, tracks: &[Track; 2]) -> String {
     let paths: String = tracks.iter().map(path).collect();
     let picture = grid(centre) + &paths + &names(tracks) + &legend(story, tracks);
     let lines = story.bodies.as_flattened().len() + story.notes.len();
-    svg::page(&story.heading, lines, &style::of_dome(), &picture)
+    svg::page(&story.heading, svg::foot(lines - 1), &style::of_dome(), &picture)
 }
 
 // ---- the dome

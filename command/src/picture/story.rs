@@ -1,11 +1,10 @@
 //! What the picture says in words: its title, its description for those who cannot see it, and the lines under it.
 
-use super::track::{degrees, Track};
-use crate::decimal;
+use super::track::Track;
 use crate::observer::{scales_words, short_range_words, Observer};
 use crate::rise_set::{passed_degrees, Day};
 use crate::sky::{Body, Place};
-use crate::svg::Heading;
+use crate::svg::{degrees, tenths, Heading};
 use crate::time::Moment;
 
 pub struct Story {
@@ -53,7 +52,7 @@ fn clock(minute: usize) -> String {
 fn highest(minutes: &[Place]) -> String {
     let by_elevation = minutes.iter().enumerate().max_by_key(|(minute, place)| (place.elevation_e8, std::cmp::Reverse(*minute)));
     let Some((minute, place)) = by_elevation else { return String::new() };
-    let elevation = decimal::written(decimal::rounded(place.elevation_e8, 7), 1);
+    let elevation = tenths(place.elevation_e8);
     let azimuth = degrees(place.azimuth_e8).round() % 360.0;
     format!("highest {elevation}° at {}, azimuth {azimuth:.0}°", clock(minute))
 }

@@ -2,7 +2,8 @@
 
 use super::dome::{length, onward, short_way, Dot, LOWEST};
 use crate::failure::Failure;
-use crate::sky::{self, Body, Place, View, DEGREE_E8};
+use crate::sky::{self, Body, Place, View};
+use crate::svg::degrees;
 
 /// How far apart two points of a line may lie on the sheet; a body near the zenith goes further in a minute.
 const LONGEST_STEP: f64 = 8.0;
@@ -20,10 +21,6 @@ pub struct Track {
     pub lines: Vec<Vec<Dot>>,
     /// The places at whole hours from 00:00 to 24:00, those below the sheet too.
     pub hours: Vec<Dot>,
-}
-
-pub fn degrees(units_e8: i64) -> f64 {
-    units_e8 as f64 / DEGREE_E8 as f64
 }
 
 fn dot(place: Place, centre: f64) -> Dot {

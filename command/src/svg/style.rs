@@ -10,7 +10,7 @@ pub struct Palette {
     /// The grounds of a day's paths.
     pub sky: &'static str,
     pub ground: &'static str,
-    /// The grounds of a year, where lines stand and no text does.
+    /// The grounds of the charts, where lines stand and no text does.
     pub light: &'static str,
     pub dark: &'static str,
 }

@@ -3,8 +3,8 @@
 use super::story::Story;
 use super::YearDay;
 use crate::sky::DAY_MINUTES;
-use crate::svg::style::{sheet, Palette};
-use crate::svg::{self, stroke, text, Spot, FIRST_LINE, INDENT, LINE, MARGIN, TO_FOOT};
+use crate::svg::style::Palette;
+use crate::svg::{self, chart, stroke, text, Spot, FIRST_LINE, INDENT, LINE, MARGIN, TO_FOOT};
 use crate::time::Moment;
 use std::fmt::Write;
 
@@ -14,24 +14,19 @@ const BOTTOM: f64 = 880.0;
 const COLUMN: f64 = 2.4;
 const MINUTE: f64 = (BOTTOM - TOP) / DAY_MINUTES as f64;
 
-/// The second sample of a line of the legend.
-const SECOND: f64 = 480.0;
-
 const MONTHS: [&str; 12] = ["Jan", "Feb", "Mar", "Apr", "May", "Jun", "Jul", "Aug", "Sep", "Oct", "Nov", "Dec"];
 
 /// Told apart without colour too: the line of sunset is dashed.
 const SHAPES: &str = "\
-.grid { fill: none; stroke-width: 1px } .frame { fill: none; stroke-width: 3px }
 .rise, .set { fill: none; stroke-width: 6px; stroke-linejoin: round; stroke-linecap: round }
 .set { stroke-dasharray: 18 12; stroke-linecap: butt }
 ";
 
 fn colours(palette: &Palette) -> String {
-    let Palette { page, text, horizon, sun, moon, light, dark, .. } = palette;
+    let Palette { sun, moon, .. } = palette;
     format!(
-        ".page {{ fill: {page} }} text {{ fill: {text} }} .light {{ fill: {light} }} .dark {{ fill: {dark} }}\n\
-         .grid, .frame {{ stroke: {horizon} }} .rise {{ stroke: {sun} }} .set {{ stroke: {moon} }}\n\
-         .rise-mark {{ fill: {sun} }} .set-mark {{ fill: {moon} }}\n"
+        "{}.rise {{ stroke: {sun} }} .set {{ stroke: {moon} }}\n.rise-mark {{ fill: {sun} }} .set-mark {{ fill: {moon} }}\n",
+        chart::colours(palette)
     )
 }
 
@@ -44,8 +39,8 @@ pub fn drawn(story: &Story, days: &[YearDay]) -> String {
         frame("dark") + &format!("<path class=\"light\" d=\"{}\"/>\n", light(days)) + &grid(days, width) + &frame("frame");
     picture += &crossings("rise", lines(days.iter().map(|day| day.sun.rise)));
     picture += &crossings("set", lines(days.iter().map(|day| day.sun.set)));
-    let rows = 3 + story.notes.len();
-    svg::page(&story.heading, rows, &sheet(SHAPES, colours), &(picture + &legend(story)))
+    let lines = 3 + story.notes.len();
+    svg::page(&story.heading, svg::foot(lines - 1), &chart::sheet(SHAPES, colours), &(picture + &legend(story)))
 }
 
 fn across(day: usize) -> f64 {
@@ -140,12 +135,7 @@ fn legend(story: &Story) -> String {
         legend += &svg::line(INDENT, foot, words);
         foot += LINE;
     }
-    for (class, x, words) in [("light", MARGIN, "the Sun is up"), ("dark", SECOND, "the Sun is down")] {
-        let y = foot - TO_FOOT - 17.0;
-        let _ = writeln!(legend, "<rect class=\"{class}\" x=\"{x}\" y=\"{y}\" width=\"90\" height=\"34\"/>");
-        let _ = writeln!(legend, "<rect class=\"grid\" x=\"{x}\" y=\"{y}\" width=\"90\" height=\"34\"/>");
-        legend += &svg::line(x + INDENT - MARGIN, foot, words);
-    }
+    legend += &chart::samples(foot);
     for note in &story.notes {
         foot += LINE;
         legend += &svg::line(MARGIN, foot, note);

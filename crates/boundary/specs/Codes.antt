@@ -1,12 +1,13 @@
 -- The codes of a body and of an air, and the refusals outside 01's numbers: no request can be formed, so they are given before all others.
 use mathlib.Core.Bool.{cond}
-use mathlib.Core.List.{_∷_}
+use mathlib.Core.List.{[], _∷_}
 use Prim.Native.Nat.{ℕ}
 use lib.Dec.{eqb, leb}
 use lib.Ieee.{Float}
 use lib.IntN.{natAbs, pos, ℤ}
-use Rattle.number_rules.specs.Angle.{quarter-turn}
+use Rattle.number_rules.specs.Angle.{half-turn, quarter-turn}
 use Rattle.sum_rules.specs.Instant.{furthest, minus}
+use Rattle.eclipse.specs.EclipseRange.{radius-most, sun-radius-least}
 use Rattle.calendar.specs.Refusal.{_else_, _unless_, first}
 use Rattle.numbers.specs.Whole.{between}
 use Rattle.refraction.specs.Air.{air-refusals}
@@ -26,6 +27,9 @@ no-elevation = 103
 
 abbrev pub out-of-reach : ℕ
 out-of-reach = 104
+
+abbrev pub no-disks : ℕ
+no-disks = 105
 
 -- the codes of a body
 abbrev pub sun : ℕ
@@ -71,3 +75,12 @@ refraction-refusal e air pressure temperature = first (kind-refusal air ∷ elev
 -- no further from 2000 than the sums reach
 abbrev pub reach-refusal : ℤ → ℕ
 reach-refusal n = out-of-reach unless leb (natAbs n) furthest
+
+-- a separation of at most 180 degrees, and radii that the Sun and the Moon can have
+abbrev pub disks-refusal : ℤ → ℤ → ℤ → ℕ
+disks-refusal apart rs rm =
+    first
+    (no-disks unless between (pos 0) apart (pos half-turn)
+    ∷ no-disks unless between (pos sun-radius-least) rs (pos radius-most)
+    ∷ no-disks unless between (pos 0) rm (pos radius-most)
+    ∷ [])

@@ -16,6 +16,8 @@ pub const NO_ELEVATION: u32 = 103;
 
 pub const OUT_OF_REACH: u32 = 104;
 
+pub const NO_DISKS: u32 = 105;
+
 // The codes of a body.
 const SUN: u32 = 0;
 

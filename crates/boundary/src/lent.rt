@@ -25,6 +25,12 @@ pub fn put_triple(triple: &mut [i64; 3], first: i64, second: i64, third: i64)
     *triple = [first, second, third];
 }
 
+pub fn put_four(four: &mut [i64; 4], first: i64, second: i64, third: i64, fourth: i64)
+    ensures { λ _. ⌜ now (four .exit) ≡ first ∷ second ∷ third ∷ fourth ∷ [] ⌝ }
+{
+    *four = [first, second, third, fourth];
+}
+
 pub fn put_doubles(triple: &mut [f64; 3], first: f64, second: f64, third: f64)
     ensures { λ _. ⌜ now (triple .exit) ≡ first ∷ second ∷ third ∷ [] ⌝ }
 {

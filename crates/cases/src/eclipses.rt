@@ -1,43 +1,20 @@
 // 003's Table 4: at each instant and point the Sun and the Moon stand together.
-use super::report::double;
 use super::report::named;
 use super::report::write;
-use numbers::sine::cosine;
-use refraction::air::Air;
+use eclipse::answer::EclipseAnswer;
+use eclipse::answer::solar_eclipse;
 use request::start::Start;
-use sky::answer::PlaceAnswer;
-use sky::answer::place;
-use sky_vectors::geocentric::Body;
-use sky_vectors::place::Place;
 use sky_vectors::station::Point;
 use sum_rules::instant::SECOND;
 
 // "within the stated uncertainty of ±0.003° in the azimuth angle" (003, section 5.4.4).
-const STATED: f64 = 300_000.0;
-
-fn size(x: f64) -> f64 {
-    if x < 0.0 { -x } else { x }
-}
-
-// The separation is no more than the way along the Sun's parallel to the Moon's azimuth, and from there up or down.
-fn are_together(sun: Place, moon: Place) -> bool {
-    let level = sun.elevation;
-    let along = double(moon.azimuth) - double(sun.azimuth);
-    let up = double(moon.elevation) - double(level);
-    let across = along * double(cosine(level)) / 1_000_000_000.0;
-    size(across) + size(up) <= STATED
-}
+const STATED: i64 = 300_000;
 
 fn is_eclipse(start: Start, point: Point) -> bool {
-    let sun = place(start, Body::Sun, point, Air::None);
-    let moon = place(start, Body::Moon, point, Air::None);
-    let PlaceAnswer::Seen(a) = sun else {
-        return false;
-    };
-    let PlaceAnswer::Seen(b) = moon else {
-        return false;
-    };
-    are_together(a, b)
+    match solar_eclipse(start, point) {
+        EclipseAnswer::Seen(seen) => seen.separation <= STATED,
+        EclipseAnswer::Refused(_) => false,
+    }
 }
 
 // UT, and delta-T in tenths of a second.
@@ -64,7 +41,7 @@ fn start_at(
 }
 
 // A row of the table: the start, and longitude and latitude in 10⁻⁷ degree.
-fn eclipse(name: &[u8], start: Start, longitude: i64, latitude: i64) {
+fn row(name: &[u8], start: Start, longitude: i64, latitude: i64) {
     let point = Point {
         longitude,
         latitude,
@@ -76,18 +53,18 @@ fn eclipse(name: &[u8], start: Start, longitude: i64, latitude: i64) {
 pub fn table_4() {
     write(b"003 Table 4:");
     let start = start_at(2009, 7, 22, 2, 33, 0, 664);
-    eclipse(b"2009", start, 1_433_617_000, 246_117_000);
+    row(b"2009", start, 1_433_617_000, 246_117_000);
     let start = start_at(2008, 8, 1, 9, 47, 18, 658);
-    eclipse(b"2008", start, 347_417_000, 811_133_000);
+    row(b"2008", start, 347_417_000, 811_133_000);
     let start = start_at(2006, 3, 29, 10, 33, 18, 649);
-    eclipse(b"2006", start, 228_867_000, 296_200_000);
+    row(b"2006", start, 228_867_000, 296_200_000);
     let start = start_at(2005, 4, 8, 20, 15, 36, 648);
-    eclipse(b"2005", start, -1_234_817_000, -157_883_000);
+    row(b"2005", start, -1_234_817_000, -157_883_000);
     let start = start_at(2002, 12, 4, 7, 38, 42, 644);
-    eclipse(b"2002", start, 628_383_000, -405_283_000);
+    row(b"2002", start, 628_383_000, -405_283_000);
     let start = start_at(2001, 6, 21, 11, 57, 48, 642);
-    eclipse(b"2001", start, 9_867_000, -115_950_000);
+    row(b"2001", start, 9_867_000, -115_950_000);
     let start = start_at(1981, 2, 4, 21, 57, 36, 515);
-    eclipse(b"1981", start, -1_459_033_000, -458_883_000);
+    row(b"1981", start, -1_459_033_000, -458_883_000);
     write(b"\n");
 }

@@ -14,7 +14,7 @@ pub fn near(value: f64, expected: f64, tolerance: f64) -> bool
 }
 
 // A whole number as a double, exactly; a NaN beyond a turn, where nothing compared here lies.
-pub fn double(x: i64) -> f64
+fn double(x: i64) -> f64
     ensures { λ r. ⌜ r ≡ whole x ⌝ }
 {
     if is_between(-TURN, x, TURN) {

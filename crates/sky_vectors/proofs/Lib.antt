@@ -1,5 +1,6 @@
 pub mod SkyMirror
 pub mod RotationLaws
 pub mod Parallax
+pub mod MomentLaws
 pub mod SkySizes
 pub mod PlaceLaws

@@ -54,6 +54,15 @@ slope-most up level = go (eqb (natAbs up + natAbs level) 0)
     go true = lit≤ tt
     go false = arctangent-most up level
 
+-- it is not below zero
+pub slope-natural : (up level : ℤ) → T (nonNeg (slope up level))
+unfolding slope
+slope-natural up level = go (eqb (natAbs up + natAbs level) 0)
+  where
+    go : (b : Bool) → T (nonNeg (cond b elevation-of-zeros (pos (arctangent up level))))
+    go true = tt
+    go false = tt
+
 -- ---- a square, as an unsigned number
 pub square-is : (z : ℤ) → z *ℤ z ≡ pos (natAbs z * natAbs z)
 square-is (pos n) = refl

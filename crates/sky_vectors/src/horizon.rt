@@ -55,8 +55,8 @@ fn level(seen: Horizon) -> i64
     root((north * north) as u64 + (east * east) as u64) as i64
 }
 
-// The elevation keeps a rule of its own for two zeros, whatever the arctangent says of them.
-fn slope(up: i64, level: i64) -> i64
+// An elevation, and the separation of two directions, keep a rule of their own for two zeros, whatever the arctangent says of them.
+pub fn slope(up: i64, level: i64) -> i64
     ensures { λ r. ⌜ r ≡ slope up level ⌝ }
 {
     if up == 0 && level == 0 {

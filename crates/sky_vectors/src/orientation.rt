@@ -1,8 +1,11 @@
-// How the sky is turned at a runner's longitude.
+// How the sky is turned at a runner's longitude, and what else the bodies have in common at an instant.
 use earth::nutation::Nutation;
+use earth::nutation::nutation_at;
 use earth::nutation::obliquity_at;
 use earth::sidereal::apparent_at;
+use sum_rules::instant::Instant;
 use sum_rules::instant::Powers;
+use sum_terms::instant::powers_at;
 ghost use mathlib.Core.Path.{_≡_};
 ghost use Prim.Native.Nat.{_≤_};
 ghost use lib.IntN.{natAbs};
@@ -10,7 +13,8 @@ ghost use Rattle.number_rules.specs.Angle.{half-turn};
 ghost use Rattle.number_rules.specs.SineTable.{sines};
 ghost use Rattle.sum_rules.specs.Instant.{Reached};
 ghost use Rattle.sum_rules.specs.Nutation.{Δψ, Δε};
-ghost use Rattle.sky_vectors.specs.Orientation.{orientation};
+ghost use Rattle.sky_vectors.specs.Orientation.{orientation, moment};
+ghost use Rattle.sky_vectors.specs.SkyRange.{Reachable};
 
 // The sidereal angle θ there, and the obliquity ε.
 pub struct Orientation {
@@ -36,5 +40,29 @@ pub fn orientation_at(
     Orientation {
         sidereal,
         obliquity,
+    }
+}
+
+// The powers of TT, the nutation in longitude and the orientation: worked once for both bodies.
+pub struct Moment {
+    pub tt: Powers,
+    pub nutation: i64,
+    pub orientation: Orientation,
+}
+
+// At an instant, for a runner at a longitude.
+pub fn moment_at(table: &[u32; 361], longitude: i64, instant: Instant) -> Moment
+    requires { ⌜ (now table ≡ sines) × ((natAbs longitude ≤ half-turn) × Reachable instant) ⌝ }
+    ensures { λ r. ⌜ r ≡ moment longitude instant ⌝ }
+{
+    let ut = powers_at(instant.ut);
+    let tt = powers_at(instant.tt);
+    let nutation = nutation_at(table, tt);
+    let in_longitude = nutation.longitude;
+    let orientation = orientation_at(table, longitude, ut, tt, nutation);
+    Moment {
+        tt,
+        nutation: in_longitude,
+        orientation,
     }
 }

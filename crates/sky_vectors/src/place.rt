@@ -8,7 +8,7 @@ use super::horizon::horizon_at;
 use super::observer::Observer;
 use super::observer::shifted;
 use super::orientation::Orientation;
-use super::orientation::orientation_at;
+use super::orientation::moment_at;
 use super::station::Point;
 use super::station::Runner;
 use super::station::runner_at;
@@ -16,11 +16,9 @@ use super::vector::Vector;
 use super::vector::equatorial;
 use super::vector::meridian;
 use super::vector::unit_vector;
-use earth::nutation::nutation_at;
 use numbers::sine::SineCosine;
 use numbers::sine::sine_cosine_in;
 use sum_rules::instant::Instant;
-use sum_terms::instant::powers_at;
 ghost use mathlib.Core.Path.{_≡_};
 ghost use Prim.Native.Nat.{_≤_};
 ghost use lib.IntN.{natAbs};
@@ -69,14 +67,10 @@ pub fn direction_at(table: &[u32; 361], body: Body, runner: Runner, instant: Ins
     requires { ⌜ (now table ≡ sines) × (Standing runner × Reachable instant) ⌝ }
     ensures { λ r. ⌜ r ≡ direction body runner instant ⌝ }
 {
-    let longitude = runner.longitude;
     let observer = runner.observer;
-    let ut = powers_at(instant.ut);
-    let tt = powers_at(instant.tt);
-    let nutation = nutation_at(table, tt);
-    let centre = geocentric_at(table, body, tt, nutation.longitude);
-    let orientation = orientation_at(table, longitude, ut, tt, nutation);
-    from_surface(table, centre, orientation, observer)
+    let moment = moment_at(table, runner.longitude, instant);
+    let centre = geocentric_at(table, body, moment.tt, moment.nutation);
+    from_surface(table, centre, moment.orientation, observer)
 }
 
 // Where a direction points to, at a latitude.

@@ -1,4 +1,4 @@
--- The Sun keeps its distance within reach, which a parallax needs, and its angles are not large.
+-- The Sun keeps its distance within reach, which a parallax needs and a disk, and its angles are not large.
 use mathlib.Core.List.{List, [], _∷_}
 use mathlib.Core.Path.{_∙_, _≡_, ap, refl, subst⁻¹}
 use Prim.Native.Nat.{_*_, _^_, _≤_, ℕ}
@@ -41,20 +41,35 @@ first-group : (n : ℤ) → group n R0 ≡ pos 10_001_398_900 +ℤ total (row-va
 unfolding total
 first-group n = ap (group n) R0-first ∙ ap (λ (z : ℤ). z +ℤ total (row-value n) (drop 1 R0)) (constant-value n constant-row refl)
 
+-- the other rows, and the later groups
+module _ (n : ℤ) where
+  abbrev rest : ℤ
+  rest = total (row-value n) (drop 1 R0)
+
+  abbrev later : ℤ
+  later = ⌊ down n (drop 1 R-groups) *ℤ n ÷ millennium ⌋
+
+  rest-small : natAbs rest ≤ 172_000_000
+  rest-small = le-trans (total-size (row-value n) spread (row-value-most n) (drop 1 R0)) (leb→le (count spread (drop 1 R0)) 172_000_000 others-most)
+
+  later-small : natAbs n ≤ furthest → natAbs later ≤ 2_000_000
+  later-small h =
+      floor-size (down n (drop 1 R-groups) *ℤ n) millennium {m = 11_000_000 * furthest}
+      (mul-bound (down n (drop 1 R-groups)) n (le-trans (down-most n h (drop 1 R-groups)) (leb→le (level (drop 1 R-groups)) 11_000_000 above-most)) h) tt
+
 pub R-least : (n : ℤ) → natAbs n ≤ furthest → pos 9_800_000_000 ≤ℤ R n
 unfolding series
 R-least n h =
-    let rest = total (row-value n) (drop 1 R0) in
-    let q = ⌊ down n (drop 1 R-groups) *ℤ n ÷ millennium ⌋ in
-    let rest-small : natAbs rest ≤ 172_000_000 =
-    le-trans (total-size (row-value n) spread (row-value-most n) (drop 1 R0)) (leb→le (count spread (drop 1 R0)) 172_000_000 others-most) in
-    let q-small : natAbs q ≤ 2_000_000 =
-    floor-size (down n (drop 1 R-groups) *ℤ n) millennium {m = 11_000_000 * furthest}
-    (mul-bound (down n (drop 1 R-groups)) n (le-trans (down-most n h (drop 1 R-groups)) (leb→le (level (drop 1 R-groups)) 11_000_000 above-most)) h) tt in
-    let low = to-le (⊟ (# 172_000_000)) ⟨ rest ⟩ (not-far-below rest 172_000_000 rest-small) in
-    let low-q = to-le (⊟ (# 2_000_000)) ⟨ q ⟩ (not-far-below q 2_000_000 q-small) in
-    subst⁻¹ (λ (z : ℤ). pos 9_800_000_000 ≤ℤ (z +ℤ q)) (first-group n)
-    (by-le (# 9_800_000_000) (# 10_001_398_900 ⊞ ⟨ rest ⟩ ⊞ ⟨ q ⟩) (omega (arith, low, low-q)))
+    let low = to-le (⊟ (# 172_000_000)) ⟨ rest n ⟩ (not-far-below (rest n) 172_000_000 (rest-small n)) in
+    let low-later = to-le (⊟ (# 2_000_000)) ⟨ later n ⟩ (not-far-below (later n) 2_000_000 (later-small n h)) in
+    subst⁻¹ (λ (z : ℤ). pos 9_800_000_000 ≤ℤ (z +ℤ later n)) (first-group n)
+    (by-le (# 9_800_000_000) (# 10_001_398_900 ⊞ ⟨ rest n ⟩ ⊞ ⟨ later n ⟩) (omega (arith, low, low-later)))
+
+pub R-most : (n : ℤ) → natAbs n ≤ furthest → natAbs (R n) ≤ 10_175_398_900
+unfolding series
+R-most n h =
+    subst⁻¹ (λ (z : ℤ). natAbs (z +ℤ later n) ≤ 10_175_398_900) (first-group n)
+    (add-bound (pos 10_001_398_900 +ℤ rest n) (later n) (add-bound (pos 10_001_398_900) (rest n) (le-refl 10_001_398_900) (rest-small n)) (later-small n h))
 
 -- ---- angles
 pub longitude-degrees-most : (l : ℤ) → natAbs (longitude-degrees l) ≤ 2 ^ 36

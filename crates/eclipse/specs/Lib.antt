@@ -1,0 +1,9 @@
+pub mod ShortArctangent
+pub mod Separation
+pub mod Radius
+pub mod Overlap
+pub mod Share
+pub mod Eclipse
+pub mod Answer
+pub mod Demand3
+pub mod EclipseRange
