@@ -5,7 +5,6 @@ use Prim.Native.Nat.{_*_, _+_, _-_, _/_, _<_, _^_, _≤_, ℕ}
 use native.Mathlib.Decide.{decLt}
 use native.Mathlib.Nat.{le-refl, le-trans}
 use native.Mathlib.Omega.{arith}
-use lib.Dec.{T, leb, leb→le}
 use lib.IntN.{_*ℤ_, _+ℤ_, natAbs, pos, ℤ}
 use lib.Signed.{mag}
 use Rattle.arithmetic.proofs.Sizes.{add-bound, mul-bound, sub-bound}
@@ -30,10 +29,10 @@ short-small {vector} short =
     side z h = under squared-limit (natAbs z) coordinate-limit h (omega arith)
 
 -- ---- what a call of `product` gave
-abbrev pub product-gave : {r : ℤ} (x y : Mirror) → T (leb (x .most * y .most / 1_000_000_000 + 1) 2_402_500_001) → mag r < 2 ^ 63 → r ≡ x .machine · y .machine → Mirror
-product-gave {r} x y t ok e =
-    gave {r = r} {v = x .number · y .number} {m = 2_402_500_001} ok (e ∙ (λ i. x .same i · y .same i))
-    (le-trans (product-most (x .number) (y .number) (x .bound) (y .bound)) (leb→le (x .most * y .most / 1_000_000_000 + 1) 2_402_500_001 t))
+abbrev pub product-gave : {r : ℤ} (x y : Mirror) → mag r < 2 ^ 63 → r ≡ x .machine · y .machine → Mirror
+product-gave {r} x y ok e =
+    gave {r = r} {v = x .number · y .number} {m = x .most * y .most / 1_000_000_000 + 1} ok (e ∙ (λ i. x .same i · y .same i))
+    (product-most (x .number) (y .number) (x .bound) (y .bound))
 
 -- ---- the mean of two squares
 mean : (a b : ℕ) → 2 * (a * b) ≤ a * a + b * b

@@ -20,12 +20,12 @@ use Rattle.sky_vectors.proofs.SkySizes.{centre-small, equatorial-small, unit-sm
 use Rattle.sum_rules.specs.Instant.{furthest}
 use Rattle.sum_rules.specs.declared.instant.Instant.{Instant}
 use Rattle.sun_sums.proofs.SunSizes.{R-least, R-most}
-use Rattle.eclipse.specs.EclipseRange.{Distant, MoonFar, ShortVector, SunFar, squared-length}
-use Rattle.eclipse.proofs.LengthLaws.{equatorial-length, meridian-length, shifted-short, unit-length}
+use Rattle.eclipse.specs.EclipseRange.{MoonDistant, MoonFar, ShortVector, SunFar, squared-length}
+use Rattle.eclipse.proofs.LengthLaws.{centre-limit, equatorial-length, meridian-length, shifted-short, unit-length}
 
 -- ---- directions
 module _ (body : Geocentric) (at : Orientation) where
-  centre-length : squared-length (from-centre body at) ≤ 1_888_100_000_000_000_000
+  centre-length : squared-length (from-centre body at) ≤ centre-limit
   unfolding from-centre
   centre-length =
       let l = one-angle (body .longitude) in
@@ -50,7 +50,7 @@ module _ (n : ℤ) (near : natAbs n ≤ furthest) where
   unfolding sun-geocentric
   sun-far = record { least = R-least n near; most = le-trans (R-most n near) (lit≤ tt) }
 
-  moon-distant : Distant 350_000_000 1_000_000_000 (geocentric Bodies.Moon n)
+  moon-distant : MoonDistant (geocentric Bodies.Moon n)
   unfolding moon-geocentric
   moon-distant = record { least = metres-least n near; most = le-trans (metres-most n near) (lit≤ tt) }
 

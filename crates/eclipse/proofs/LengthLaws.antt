@@ -129,13 +129,21 @@ module _ (angle : SineCosine) (x y : ℤ) {m n : ℕ} (hx : natAbs x ≤ m) (hy 
           → 1000 * w ≤ 1179 * n + 11384 * m + 8000
       last w e l h k j = omega arith
 
--- ---- the chain, from the unit vector to the one less the parallax
+-- ---- the chain, from the unit vector to the one less the parallax: what bounds its squared length on the way
+abbrev unit-limit : ℕ
+unit-limit = 1_358_100_000_000_000_000
+
+abbrev equatorial-limit : ℕ
+equatorial-limit = 1_601_300_000_000_000_000
+
+abbrev pub centre-limit : ℕ
+centre-limit = 1_888_100_000_000_000_000
 
 -- one product: 10⁹ |⌊a b / 10⁹⌋| ≤ |a| |b| + 10⁹
 product-near : (a b : ℤ) → unit * natAbs (a · b) ≤ natAbs a * natAbs b + unit
 product-near a b = omega (arith, product-most a b (le-refl (natAbs a)) (le-refl (natAbs b)))
 
-pub unit-length : {l t : SineCosine} → OneAngle l → OneAngle t → squared-length (unit-vector l t) ≤ 1_358_100_000_000_000_000
+pub unit-length : {l t : SineCosine} → OneAngle l → OneAngle t → squared-length (unit-vector l t) ≤ unit-limit
 unfolding unit-vector
 unit-length {l} {t} by-l by-t =
     let T = natAbs (t .cosine) in
@@ -157,18 +165,18 @@ unit-length {l} {t} by-l by-t =
         squared x′ y′ p q r h k e l = omega (arith, mul-le-mul h h, mul-le-mul k k)
 
     last : (w T Z l : ℕ) → unit * unit * w ≤ T * circle + 2 * unit * l + 2 * (unit * unit) → Z + T ≤ circle
-        → T ≤ 1_000_000_002_000_000_001 → l ≤ 1_423_000_001_423_000_000 → w + Z ≤ 1_358_100_000_000_000_000
+        → T ≤ 1_000_000_002_000_000_001 → l ≤ 1_423_000_001_423_000_000 → w + Z ≤ unit-limit
     last w T Z l h k i j = omega arith
 
-pub equatorial-length : {ε : SineCosine} {v : Vector} → OneAngle ε → SmallVector 1_001_000_000 v → squared-length v ≤ 1_358_100_000_000_000_000
-    → squared-length (equatorial ε v) ≤ 1_601_300_000_000_000_000
+pub equatorial-length : {ε : SineCosine} {v : Vector} → OneAngle ε → SmallVector 1_001_000_000 v → squared-length v ≤ unit-limit
+    → squared-length (equatorial ε v) ≤ equatorial-limit
 unfolding equatorial rotated
 equatorial-length {ε} {v} one small h =
     let r = rotated-length ε (v .z) (v .y) {n = square-of (v .z) + square-of (v .y)} (small .z-size) (small .y-size) (le-refl (square-of (v .z) + square-of (v .y))) one in
     rw (sym (equatorial-z ε v)) (omega arith)
 
-pub meridian-length : {θ : SineCosine} {v : Vector} → OneAngle θ → SmallVector 1_425_000_000 v → squared-length v ≤ 1_601_300_000_000_000_000
-    → squared-length (meridian θ v) ≤ 1_888_100_000_000_000_000
+pub meridian-length : {θ : SineCosine} {v : Vector} → OneAngle θ → SmallVector 1_425_000_000 v → squared-length v ≤ equatorial-limit
+    → squared-length (meridian θ v) ≤ centre-limit
 unfolding meridian rotated
 meridian-length {θ} {v} one small h =
     let r = rotated-length θ (v .x) (v .y) {n = square-of (v .x) + square-of (v .y)} (small .x-size) (small .y-size) (le-refl (square-of (v .x) + square-of (v .y))) one in
@@ -183,7 +191,7 @@ less-small a b h k =
     grown x y h k = omega (arith, mul-le-mul k k)
 
 pub shifted-short : {observer : Observer} {v : Vector} (p : ℤ) → natAbs p ≤ parallax-limit → SmallObserver observer → SmallVector 2_028_000_000 v
-    → squared-length v ≤ 1_888_100_000_000_000_000 → ShortVector (shifted p observer v)
+    → squared-length v ≤ centre-limit → ShortVector (shifted p observer v)
 unfolding shifted
 shifted-short {observer} {v} p h near small l =
     let x = less-small (v .x) (p · observer .f) (small .x-size) (le-trans (product-most p (observer .f) h (near .f-size)) (lit≤ tt)) in

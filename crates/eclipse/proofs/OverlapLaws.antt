@@ -88,6 +88,10 @@ height-within {apart} {rs} {rm} c =
     let l : apart + rm - rs ≤ 2 * apart = omega (arith, c .moon-out) in
     div-le-of-le-mul (2 * apart) (omega (arith, mul-le-mul-left width l))
 
+-- no disk is wider
+abbrev pub diameter-most : ℕ
+diameter-most = 2 * radius-most
+
 -- ---- sizes: a piece is not much more than the disk, and stays so times rm / rs
 module _ (r k : ℕ) where
   pub half-angle-most : half-angle r k ≤ half-turn
@@ -106,14 +110,14 @@ module _ (r k : ℕ) where
       (lit≤ tt)
 
   module _ (h : r ≤ radius-most) (l : k ≤ 2 * r) where
-    pub chord-fits : k * (2 * r - k) ≤ 3_600_000_000_000_000
+    pub chord-fits : k * (2 * r - k) ≤ diameter-most * diameter-most
     chord-fits =
-        let a : k ≤ 60_000_000 = omega arith in
-        let b : 2 * r - k ≤ 60_000_000 = omega arith in
+        let a : k ≤ diameter-most = omega arith in
+        let b : 2 * r - k ≤ diameter-most = omega arith in
         mul-le-mul a b
 
-    pub half-chord-most : root (k * (2 * r - k)) ≤ 60_000_000
-    half-chord-most = root-most (k * (2 * r - k)) 60_000_000 (omega (arith, chord-fits))
+    pub half-chord-most : root (k * (2 * r - k)) ≤ diameter-most
+    half-chord-most = root-most (k * (2 * r - k)) diameter-most (omega (arith, chord-fits))
 
 pub over-sun : (z : ℤ) (rs m k : ℕ) → natAbs z ≤ m → sun-radius-least ≤ rs → T (leb m (sun-radius-least * k)) → natAbs ⌊ z ÷ rs ⌋ ≤ k + 1
 over-sun z rs m k h l t =

@@ -1,11 +1,13 @@
 -- The radii of bodies that are far enough: the Sun's 0.2 to 0.3 degree, the Moon's at most 0.3.
+use mathlib.Core.Path.{subst⁻¹}
 use Prim.Native.Nat.{_*_, _<_, _≤_}
 use native.Mathlib.Nat.{div-le-of-le-mul, le-div-iff-mul-le, le-refl, le-trans}
 use native.Mathlib.Omega.{arith}
 use lib.Dec.{T, lit≤}
-use lib.IntN.{_+ℤ_, natAbs, negsuc, pos, ℤ}
-use lib.Signed.{_≤ℤ_, nonNeg}
+use lib.IntN.{_+ℤ_, natAbs, pos, ℤ}
+use lib.Signed.{nonNeg}
 use Rattle.arithmetic.proofs.Difference.{#_, _⊞_, abs-parts, by-le, ⟨_⟩}
+use Rattle.arithmetic.proofs.FloorLaws.{above-is}
 use Rattle.arithmetic.proofs.Sizes.{add-bound, at-least}
 use Rattle.number_rules.proofs.SineSize.{sine-most}
 use Rattle.number_rules.specs.Sine.{sine}
@@ -17,11 +19,7 @@ use Rattle.eclipse.specs.Radius.{moon-radius, sun-radius}
 
 -- 10⁹ and a little more or less is a natural number
 pub nearly-one : (z : ℤ) → natAbs z ≤ 1_000_000_000 → T (nonNeg (pos 1_000_000_000 +ℤ z))
-nearly-one z h = not-below (by-le (# 0) (# 1_000_000_000 ⊞ ⟨ z ⟩) (omega (arith, abs-parts z)))
-  where
-    not-below : {a : ℤ} → pos 0 ≤ℤ a → T (nonNeg a)
-    not-below {a = pos n} h = tt
-    not-below {a = negsuc n} h = h .le
+nearly-one z h = subst⁻¹ (λ (a : ℤ). T (nonNeg a)) (above-is (by-le (# 0) (# 1_000_000_000 ⊞ ⟨ z ⟩) (omega (arith, abs-parts z)))) tt
 
 sun-least : {sun : Geocentric} → SunFar sun → sun-radius-least ≤ sun-radius sun
 unfolding sun-radius

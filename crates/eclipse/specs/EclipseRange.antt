@@ -40,9 +40,13 @@ pub record Distant (lo hi : ℕ) (body : Geocentric) : Type 0 where
 abbrev pub SunFar : Geocentric → Type 0
 SunFar sun = Distant 9_800_000_000 13_000_000_000 sun
 
--- the Moon, in metres, and its parallax
+-- the Moon, in metres
+abbrev pub MoonDistant : Geocentric → Type 0
+MoonDistant moon = Distant 350_000_000 1_000_000_000 moon
+
+-- and with its parallax
 pub record MoonFar (moon : Geocentric) : Type 0 where
-  pub distant : Distant 350_000_000 1_000_000_000 moon
+  pub distant : MoonDistant moon
   pub parallax-size : natAbs (moon .parallax) ≤ parallax-limit
 
 -- ---- disks

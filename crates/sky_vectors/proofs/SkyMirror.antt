@@ -55,13 +55,13 @@ slope-most up level = go (eqb (natAbs up + natAbs level) 0)
     go false = arctangent-most up level
 
 -- it is not below zero
-pub slope-natural : (up level : ℤ) → T (nonNeg (slope up level))
+pub slope-natural : (up level : ℤ) → slope up level ≡ pos (natAbs (slope up level))
 unfolding slope
 slope-natural up level = go (eqb (natAbs up + natAbs level) 0)
   where
-    go : (b : Bool) → T (nonNeg (cond b elevation-of-zeros (pos (arctangent up level))))
-    go true = tt
-    go false = tt
+    go : (b : Bool) → let angle = cond b elevation-of-zeros (pos (arctangent up level)) in angle ≡ pos (natAbs angle)
+    go true = refl
+    go false = refl
 
 -- ---- a square, as an unsigned number
 pub square-is : (z : ℤ) → z *ℤ z ≡ pos (natAbs z * natAbs z)

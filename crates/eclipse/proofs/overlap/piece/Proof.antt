@@ -11,7 +11,7 @@ use Rattle.numbers.proofs.Machine.{Mirror, _⊖_, _⊗_, fits, floor-gave, from
 use Rattle.number_rules.proofs.SineSize.{sine-most}
 use Rattle.eclipse.specs.Overlap.{half-angle, piece}
 use Rattle.eclipse.specs.ShortArctangent.{short-arctangent}
-use Rattle.eclipse.proofs.OverlapLaws.{chord-fits, half-angle-most, half-chord-most}
+use Rattle.eclipse.proofs.OverlapLaws.{chord-fits, diameter-most, half-angle-most, half-chord-most}
 use Rattle.eclipse.proofs.overlap.piece.Statement.{statement}
 use Rattle.eclipse.proofs.overlap.piece.Tie as tie
 
@@ -24,12 +24,12 @@ module _ (s : tie.Start) where
 
   abbrev from-centre : Mirror
   from-centre =
-      let l : k ≤ 60_000_000 = omega arith in
+      let l : k ≤ diameter-most = omega arith in
       from-nat {n = r} (s .pre .1 .0) tt ⊖ from-nat {n = k} l tt
 
 module _ (c : tie.After-root) where
-  chord-most : c .root .result ≤ 60_000_000
-  chord-most = subst⁻¹ (λ (n : ℕ). n ≤ 60_000_000) (c .root .ensures) (half-chord-most (r (c .before)) (k (c .before)) (c .before .pre .1 .0) (c .before .pre .1 .1))
+  chord-most : c .root .result ≤ diameter-most
+  chord-most = subst⁻¹ (λ (n : ℕ). n ≤ diameter-most) (c .root .ensures) (half-chord-most (r (c .before)) (k (c .before)) (c .before .pre .1 .0) (c .before .pre .1 .1))
 
   abbrev chord : Mirror
   chord = from-nat chord-most tt

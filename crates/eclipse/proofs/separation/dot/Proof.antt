@@ -22,14 +22,14 @@ abbrev flat : tie.After-product2 → Mirror
 flat b =
     let a = b .before .before .before in
     let s = first a in
-    product-gave (x-in (sun s) tt) (x-in (moon s) tt) tt (a .product .ok) (a .product .ensures)
-    ⊕ product-gave (y-in (sun s) tt) (y-in (moon s) tt) tt (b .product2 .ok) (b .product2 .ensures)
+    product-gave (x-in (sun s) tt) (x-in (moon s) tt) (a .product .ok) (a .product .ensures)
+    ⊕ product-gave (y-in (sun s) tt) (y-in (moon s) tt) (b .product2 .ok) (b .product2 .ensures)
 
 abbrev result : tie.After-product3 → Mirror
 result c =
     let b = c .before .before .before in
     let s = first (b .before .before .before) in
-    kept (flat b) tt ⊕ product-gave (z-in (sun s) tt) (z-in (moon s) tt) tt (c .product3 .ok) (c .product3 .ensures)
+    kept (flat b) tt ⊕ product-gave (z-in (sun s) tt) (z-in (moon s) tt) (c .product3 .ok) (c .product3 .ensures)
 
 product-requires : tie.Need-product-requires
 product-requires c κs = let s = c .before .before in (asked (x-in (sun s) tt) tt, asked (x-in (moon s) tt) tt)

@@ -21,7 +21,7 @@ module _ (s : tie.Start) where
 abbrev result : tie.After-product2 → Mirror
 result c =
     let s = c .before .before in
-    product-gave (s1 s) (m2 s) tt (c .before .product .ok) (c .before .product .ensures) ⊖ product-gave (s2 s) (m1 s) tt (c .product2 .ok) (c .product2 .ensures)
+    product-gave (s1 s) (m2 s) (c .before .product .ok) (c .before .product .ensures) ⊖ product-gave (s2 s) (m1 s) (c .product2 .ok) (c .product2 .ensures)
 
 product-requires : tie.Need-product-requires
 product-requires s κs = (asked (s1 s) tt, asked (m2 s) tt)

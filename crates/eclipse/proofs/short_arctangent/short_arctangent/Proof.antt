@@ -1,15 +1,11 @@
 -- `eclipse::short_arctangent::short_arctangent` meets its contract.
-use mathlib.Core.Path.{_∙_, ap, ap₂, subst, subst⁻¹, sym}
+use mathlib.Core.Path.{_∙_, ap, ap₂, subst, sym}
 use Prim.Native.Nat.{_-_, _<_, _≤_}
 use native.Mathlib.Omega.{arith}
-use lib.Dec.{T}
 use lib.IntN.{natAbs, ℤ}
-use lib.Signed.{nonNeg}
-use mir.Syntax.{w64}
-use mir.Val.{Fits}
 use borrow.Author.Needs.{needs}
 use Rattle.number_rules.specs.Angle.{full-turn}
-use Rattle.numbers.proofs.Machine.{Mirror, any, asked, gave}
+use Rattle.numbers.proofs.Machine.{Mirror, any, asked, gave, to-nat}
 use Rattle.sky_vectors.specs.Horizon.{slope}
 use Rattle.sky_vectors.proofs.SkyMirror.{slope-most, slope-natural}
 use Rattle.eclipse.specs.ShortArctangent.{short-arctangent}
@@ -30,9 +26,7 @@ slope-requires : tie.Need-slope-requires
 slope-requires c κs = search needs
 
 cast-angle : tie.Need-cast-angle
-cast-angle c =
-    subst⁻¹ (λ (z : ℤ). T (nonNeg z) × Fits w64 (natAbs z)) (found c .same)
-    (slope-natural (s c .args .y) (s c .args .x), record { fits = omega (arith, found c .bound) })
+cast-angle c = to-nat (found c .same ∙ slope-natural (s c .args .y) (s c .args .x)) (omega (arith, found c .bound))
 
 sub-other : tie.Need-sub-other
 sub-other c = asked (found c) tt
