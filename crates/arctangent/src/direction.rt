@@ -1,5 +1,5 @@
 // The arctangent of a pair of numbers, as a reduced angle.
-use super::wide_direction::wide_direction;
+use super::wide_angle::wide_angle;
 use numbers::angle::Angle;
 use numbers::whole::sign_of;
 ghost use mathlib.Core.Path.{_≡_};
@@ -120,8 +120,8 @@ fn is_small(z: i64) -> bool
     z <= 1_099_511_627_776
 }
 
-// The direction of a small pair.
-fn narrow_direction(y: i64, x: i64) -> Angle
+// The angle of a small pair.
+fn narrow_angle(y: i64, x: i64) -> Angle
     requires { ⌜ (natAbs y ≤ 2 ^ 40) × (natAbs x ≤ 2 ^ 40) ⌝ }
     ensures { λ r. ⌜ r .units ≡ reduced (steps 30 (start y x) .angle) ⌝ }
 {
@@ -130,17 +130,17 @@ fn narrow_direction(y: i64, x: i64) -> Angle
     Angle::new(a)
 }
 
-// The direction of a pair that has one.
-fn direction(y: i64, x: i64) -> Angle
+// The angle of a pair that has a direction.
+fn angle_of(y: i64, x: i64) -> Angle
     ensures { λ r. ⌜ r .units ≡ reduced (steps 30 (start y x) .angle) ⌝ }
 {
     if is_small(y) {
         if is_small(x) {
-            return narrow_direction(y, x);
+            return narrow_angle(y, x);
         }
-        return wide_direction(y, x);
+        return wide_angle(y, x);
     }
-    wide_direction(y, x)
+    wide_angle(y, x)
 }
 
 // From the x axis towards the y axis, for any two numbers.
@@ -153,7 +153,7 @@ pub fn arctangent(y: i64, x: i64) -> Angle
                 units: NO_DIRECTION,
             };
         }
-        return direction(y, x);
+        return angle_of(y, x);
     }
-    direction(y, x)
+    angle_of(y, x)
 }

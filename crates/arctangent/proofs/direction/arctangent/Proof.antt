@@ -13,7 +13,7 @@ use Rattle.numbers.proofs.Machine.{any, is-zero, not-zero}
 use Rattle.arctangent.proofs.direction.arctangent.Statement.{statement}
 use Rattle.arctangent.proofs.direction.arctangent.Tie as tie
 
--- what `direction` gave at the parameters
+-- what `angle_of` gave at the parameters
 module _ (s : tie.Start) (u : ℕ) (e : u ≡ reduced (steps 30 (start (toZ w64 (ofZ w64 (s .args .y))) (toZ w64 (ofZ w64 (s .args .x)))) .angle)) where
   is-arctangent : 0 < natAbs (s .args .y) + natAbs (s .args .x) → u ≡ arctangent (s .args .y) (s .args .x)
   is-arctangent h =
@@ -23,21 +23,21 @@ returns : tie.Need-returns
 returns c =
     let s = c .before .before in sym (both-zero (is-zero (s .fits .y) (c .before .if1 .taken)) (is-zero (s .fits .x) (c .if2 .taken)))
 
-direction-requires : tie.Need-direction-requires
-direction-requires c κs = search needs
+angle-of-requires : tie.Need-angle-of-requires
+angle-of-requires c κs = search needs
 
 returns-2 : tie.Need-returns-2
 returns-2 c =
     let s = c .before .before .before in
-    is-arctangent s (c .direction .result .units) (c .direction .ensures) (omega (arith, not-zero (s .args .x) (c .before .if2 .left)))
+    is-arctangent s (c .angle-of .result .units) (c .angle-of .ensures) (omega (arith, not-zero (s .args .x) (c .before .if2 .left)))
 
-direction-requires-2 : tie.Need-direction-requires-2
-direction-requires-2 c κs = search needs
+angle-of-requires-2 : tie.Need-angle-of-requires-2
+angle-of-requires-2 c κs = search needs
 
 returns-3 : tie.Need-returns-3
 returns-3 c =
     let s = c .before .before in
-    is-arctangent s (c .direction2 .result .units) (c .direction2 .ensures) (omega (arith, not-zero (s .args .y) (c .before .if1 .left)))
+    is-arctangent s (c .angle-of2 .result .units) (c .angle-of2 .ensures) (omega (arith, not-zero (s .args .y) (c .before .if1 .left)))
 
 pub arctangent-spec : {M : Type 1} → statement M
-arctangent-spec = tie.close (tie.spec returns direction-requires returns-2 direction-requires-2 returns-3)
+arctangent-spec = tie.close (tie.spec returns angle-of-requires returns-2 angle-of-requires-2 returns-3)

@@ -79,8 +79,8 @@ fn wide_started(y: i64, x: i64) -> WideTurning
     }
 }
 
-// The direction of any pair.
-pub fn wide_direction(y: i64, x: i64) -> Angle
+// The angle of any pair.
+pub fn wide_angle(y: i64, x: i64) -> Angle
     ensures { λ r. ⌜ r .units ≡ reduced (steps 30 (start y x) .angle) ⌝ }
 {
     let t = wide_turned(wide_started(y, x));
