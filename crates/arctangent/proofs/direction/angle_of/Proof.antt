@@ -5,16 +5,15 @@ use mir.Syntax.{w64}
 use mir.Val.{ofZ, toZ}
 use borrow.Author.Needs.{needs}
 use borrow.Author.Tests.{leb-true}
-use Rattle.number_rules.specs.Angle.{reduced}
-use Rattle.arctangent.specs.Arctangent.{start, steps}
+use Rattle.arctangent.specs.Arctangent.{angle-of}
 use Rattle.numbers.proofs.Machine.{any}
 use Rattle.arctangent.proofs.direction.angle_of.Statement.{statement}
 use Rattle.arctangent.proofs.direction.angle_of.Tie as tie
 
 -- an angle at the parameters, as a callee gave it
-module _ (s : tie.Start) (u : ℕ) (e : u ≡ reduced (steps 30 (start (toZ w64 (ofZ w64 (s .args .y))) (toZ w64 (ofZ w64 (s .args .x)))) .angle)) where
-  is-angle : u ≡ reduced (steps 30 (start (s .args .y) (s .args .x)) .angle)
-  is-angle = e ∙ (λ i. reduced (steps 30 (start (any (s .fits .y) .same i) (any (s .fits .x) .same i)) .angle))
+module _ (s : tie.Start) (u : ℕ) (e : u ≡ angle-of (toZ w64 (ofZ w64 (s .args .y))) (toZ w64 (ofZ w64 (s .args .x)))) where
+  is-angle : u ≡ angle-of (s .args .y) (s .args .x)
+  is-angle = e ∙ (λ i. angle-of (any (s .fits .y) .same i) (any (s .fits .x) .same i))
 
 is-small-requires : tie.Need-is-small-requires
 is-small-requires c κs = search needs

@@ -5,7 +5,7 @@ use lib.Dec.{lit≤}
 use lib.IntN.{natAbs}
 use borrow.Author.Needs.{needs}
 use Rattle.number_rules.specs.Angle.{reduced}
-use Rattle.arctangent.specs.Arctangent.{start, steps}
+use Rattle.arctangent.specs.Arctangent.{angle-of, start, steps}
 use Rattle.arctangent.specs.declared.direction.Turning.{Turning}
 use Rattle.arctangent.proofs.ArctangentLaws.{Sized, narrow-sized, start-sized}
 use Rattle.numbers.proofs.Machine.{any, handed, told}
@@ -40,6 +40,7 @@ new-requires : tie.Need-new-requires
 new-requires c κs = search needs
 
 returns : tie.Need-returns
+unfolding angle-of
 returns c =
     c .new .ensures
     ∙ ap reduced (told {r = c .before .before .turned .result .angle} refl (angle-small (c .before .before)) tt .same ∙ ap (λ (t : Turning). t .angle) (turned-is (c .before .before)))

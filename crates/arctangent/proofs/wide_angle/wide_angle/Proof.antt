@@ -3,7 +3,7 @@ use mathlib.Core.Path.{_∙_, _≡_, ap, refl, subst⁻¹}
 use Prim.Native.Nat.{_^_}
 use borrow.Author.Needs.{needs}
 use Rattle.number_rules.specs.Angle.{reduced}
-use Rattle.arctangent.specs.Arctangent.{start, steps}
+use Rattle.arctangent.specs.Arctangent.{angle-of, start, steps}
 use Rattle.arctangent.specs.Limbs.{turning}
 use Rattle.arctangent.specs.declared.direction.Turning.{Turning}
 use Rattle.arctangent.proofs.ArctangentLaws.{Sized, start-sized}
@@ -31,6 +31,7 @@ new-requires : tie.Need-new-requires
 new-requires c κs = search needs
 
 returns : tie.Need-returns
+unfolding angle-of
 returns c =
     let t = c .before .before in
     c .new .ensures
