@@ -1,4 +1,4 @@
--- The arctangent: which case a test of the sign leaves, and how large the numbers grow.
+-- The arctangent: which case a test of the sign leaves, how large the numbers grow, and what a direction keeps to.
 use mathlib.Core.Bool.{Bool, cond, false, true}
 use mathlib.Core.List.{[], _∷_}
 use mathlib.Core.Path.{_≡_, ap, refl, subst, subst⁻¹, sym}
