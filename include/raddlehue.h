@@ -9,6 +9,9 @@
  * north over east (east is 90 degrees), longitude is east positive, latitude north positive, time is UTC in the Gregorian calendar and never a local zone, elevation
  * counts from the horizon upward.
  *
+ * Since version 3 an azimuth may be absent: a body straight overhead, or straight underfoot, has none. A place says so by a flag beside it; a batch and the arctangent,
+ * which give bare numbers, by RADDLEHUE_NO_DIRECTION_E8.
+ *
  * What is asked of the caller: a pointer points to as many numbers as its type or its length says, aligned as C aligns them; memories that are written do not overlap
  * others of the same call; about 8 KiB of stack (docs/FIGURES.md has the exact numbers), and for a day 11.5 KB of the caller's own beside it, for the curve; and, for the
  * doubles of the shown place and of the refraction, the usual state of the floating-point unit: round to nearest, no flush to zero. Lengths have 64 bits on every
@@ -32,15 +35,19 @@ extern "C" {
 #endif
 
 /* The version of this header and of the archive beside it. The first number changes when old code must not compile. */
-#define RADDLEHUE_VERSION "2.3.0"
-#define RADDLEHUE_VERSION_MAJOR 2
-#define RADDLEHUE_VERSION_MINOR 3
+#define RADDLEHUE_VERSION "3.0.0"
+#define RADDLEHUE_VERSION_MAJOR 3
+#define RADDLEHUE_VERSION_MINOR 0
 #define RADDLEHUE_VERSION_PATCH 0
 
 /* Units of time to a second, and units of angle to a degree. */
 #define RADDLEHUE_SECOND 10
 #define RADDLEHUE_DEGREE_E7 10000000
 #define RADDLEHUE_DEGREE_E8 100000000
+
+/* No direction, where one number has to say so: an entry of a batch's azimuths, and the arctangent of two zeros. It is no angle from 0 up to 360 degrees, and
+ * raddlehue_middle refuses it by 15. (INT64_MAX, whose name an old C++ may lack.) */
+#define RADDLEHUE_NO_DIRECTION_E8 9223372036854775807
 
 /* The refusals. They are checked in the order of their numbers, but 15 before 14, and those from 101 on first of all, since no request can be formed; each function's comment
  * says which it gives. docs/REFUSALS.md has the list. */
@@ -134,20 +141,23 @@ typedef struct {
 
 /* ---- the place of a body */
 
+/* A body straight overhead or straight underfoot has no azimuth. has_azimuth, beside the place, is 1 where there is one and 0 where there is none. Ask it first: where there
+ * is none the number is 0, as it is in the north, and the elevation does not tell the two apart. */
 typedef struct {
-    int64_t azimuth_e8;   /* from north over east, 0 to 35,999,999,999 */
-    int64_t elevation_e8; /* above the horizon, without refraction, within 9,000,000,000 */
+    int64_t azimuth_if_any_e8; /* from north over east, 0 to 35,999,999,999; 0 where there is none */
+    int64_t elevation_e8;      /* above the horizon, without refraction, within 9,000,000,000 */
 } raddlehue_place_t;
 
 /* Against JPL's DE431 the Sun lies within 0.0002 degree and the Moon within 0.002 (docs/FIGURES.md), given the right UT1 and delta-T. The air does not change this
- * place, and a bad one is refused all the same. Refused: 101, 102, then 1 to 11. */
+ * place, and a bad one is refused all the same. The flag and the place are both written, or neither is. Refused: 101, 102, then 1 to 11. */
 uint32_t raddlehue_place(
     const raddlehue_start_t *start, uint32_t body, const raddlehue_point_t *point,
-    uint32_t air, double pressure_mbar, double temperature_celsius, raddlehue_place_t *place);
+    uint32_t air, double pressure_mbar, double temperature_celsius, uint32_t *has_azimuth, raddlehue_place_t *place);
 
 typedef struct {
     uint32_t refusal;
-    int64_t azimuth_e8;
+    uint32_t has_azimuth;
+    int64_t azimuth_if_any_e8;
     int64_t elevation_e8;
 } raddlehue_place_answer_t;
 
@@ -156,8 +166,10 @@ RADDLEHUE_INLINE raddlehue_place_answer_t raddlehue_place_of(
 {
     raddlehue_place_t place = {0, 0};
     raddlehue_place_answer_t answer;
-    answer.refusal = raddlehue_place(&start, body, &point, air.kind, air.pressure_mbar, air.temperature_celsius, &place);
-    answer.azimuth_e8 = place.azimuth_e8;
+    answer.has_azimuth = 0;
+    answer.refusal = raddlehue_place(
+        &start, body, &point, air.kind, air.pressure_mbar, air.temperature_celsius, &answer.has_azimuth, &place);
+    answer.azimuth_if_any_e8 = place.azimuth_if_any_e8;
     answer.elevation_e8 = place.elevation_e8;
     return answer;
 }
@@ -169,19 +181,20 @@ RADDLEHUE_INLINE raddlehue_place_answer_t raddlehue_place_of(
 #define RADDLEHUE_LOWEST_REFRACTED_E8 (-83337000)
 
 typedef struct {
-    double azimuth_degrees;    /* from north over east, from 0 up to but not 360 */
-    double elevation_degrees;  /* with the refraction in it */
-    double refraction_degrees; /* slightly below zero near the zenith, by the report's formula; 0 below RADDLEHUE_LOWEST_REFRACTED_E8 and without air */
+    double azimuth_if_any_degrees; /* from north over east, from 0 up to but not 360; 0 where there is none */
+    double elevation_degrees;      /* with the refraction in it */
+    double refraction_degrees;     /* slightly below zero near the zenith, by the report's formula; 0 below RADDLEHUE_LOWEST_REFRACTED_E8 and without air */
 } raddlehue_shown_place_t;
 
-/* Refused: 101, 102, then 1 to 11. */
+/* has_azimuth is the place's. Refused: 101, 102, then 1 to 11. */
 uint32_t raddlehue_shown_place(
     const raddlehue_start_t *start, uint32_t body, const raddlehue_point_t *point,
-    uint32_t air, double pressure_mbar, double temperature_celsius, raddlehue_shown_place_t *shown);
+    uint32_t air, double pressure_mbar, double temperature_celsius, uint32_t *has_azimuth, raddlehue_shown_place_t *shown);
 
 typedef struct {
     uint32_t refusal;
-    double azimuth_degrees;
+    uint32_t has_azimuth;
+    double azimuth_if_any_degrees;
     double elevation_degrees;
     double refraction_degrees;
 } raddlehue_shown_place_answer_t;
@@ -191,8 +204,10 @@ RADDLEHUE_INLINE raddlehue_shown_place_answer_t raddlehue_shown_place_of(
 {
     raddlehue_shown_place_t shown = {0.0, 0.0, 0.0};
     raddlehue_shown_place_answer_t answer;
-    answer.refusal = raddlehue_shown_place(&start, body, &point, air.kind, air.pressure_mbar, air.temperature_celsius, &shown);
-    answer.azimuth_degrees = shown.azimuth_degrees;
+    answer.has_azimuth = 0;
+    answer.refusal = raddlehue_shown_place(
+        &start, body, &point, air.kind, air.pressure_mbar, air.temperature_celsius, &answer.has_azimuth, &shown);
+    answer.azimuth_if_any_degrees = shown.azimuth_if_any_degrees;
     answer.elevation_degrees = shown.elevation_degrees;
     answer.refraction_degrees = shown.refraction_degrees;
     return answer;
@@ -205,9 +220,9 @@ typedef struct {
     uint64_t count; /* how many entries of each buffer were written */
 } raddlehue_batch_t;
 
-/* Entry i of each buffer is the place at offset i; what lies beyond the last offset is left alone, and a refused batch writes to neither buffer. `batch` is written
- * where the batch is accepted, and where it is refused by 13, for the index. A length counts entries, and one of 0 may come with a null pointer. Refused: 101, then 1
- * to 9, 12 and 13. */
+/* Entry i of each buffer is the place at offset i. Where that has no azimuth, RADDLEHUE_NO_DIRECTION_E8 stands in the entry of the azimuths; the elevation is there as ever.
+ * What lies beyond the last offset is left alone, and a refused batch writes to neither buffer. `batch` is written where the batch is accepted, and where it is refused
+ * by 13, for the index. A length counts entries, and one of 0 may come with a null pointer. Refused: 101, then 1 to 9, 12 and 13. */
 uint32_t raddlehue_batch(
     const raddlehue_start_t *start, uint32_t body, const raddlehue_point_t *point,
     const uint32_t *offsets_tenths, uint64_t offsets_length,
@@ -526,8 +541,8 @@ RADDLEHUE_INLINE raddlehue_mean_sidereal_answer_t raddlehue_mean_sidereal_of(int
 int64_t raddlehue_sine(int64_t angle_e8);
 int64_t raddlehue_cosine(int64_t angle_e8);
 
-/* The angle of the point (x, y) from the x axis towards the y axis, 0 to 35,999,999,999; 0 where both are zero. Thirty whole-number steps: a pair of thousands or more is
- * good to some units, a tiny one is not (of y = 1, x = 0 it is 9,004,472,123). */
+/* The angle of the point (x, y) from the x axis towards the y axis, 0 to 35,999,999,999; RADDLEHUE_NO_DIRECTION_E8 where both are zero. Thirty whole-number steps: a pair of
+ * thousands or more is good to some units, a tiny one is not (of y = 1, x = 0 it is 9,004,472,123). */
 int64_t raddlehue_arctangent(int64_t y, int64_t x);
 
 /* The greatest whole number whose square is not above the given one. */

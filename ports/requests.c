@@ -160,12 +160,14 @@ static void show_request(const char *what, const int64_t n[12], uint32_t body, a
     name(what), numbers(n, 9), word(body), numbers(n + 9, 3), word(air.kind), word(air.pressure), word(air.temperature);
 }
 
+/* Whether there is an azimuth is lent a word before the numbers, of which it takes the lower half: the upper stays poisoned. */
 static void show_place(const int64_t n[12], uint32_t body, air_t air) {
     double p = of_bits(air.pressure), t = of_bits(air.temperature);
-    show_request("place", n, body, air);
-    show_lent(raddlehue_place(start_of(n), body, point_of(n), air.kind, p, t, lend()), 2), end_line();
-    show_request("shown_place", n, body, air);
-    show_lent(raddlehue_shown_place(start_of(n), body, point_of(n), air.kind, p, t, lend()), 3), end_line();
+    void *flag = &lent[SIDE], *place = &lent[SIDE + 1];
+    show_request("place", n, body, air), lend();
+    show_lent(raddlehue_place(start_of(n), body, point_of(n), air.kind, p, t, flag, place), 3), end_line();
+    show_request("shown_place", n, body, air), lend();
+    show_lent(raddlehue_shown_place(start_of(n), body, point_of(n), air.kind, p, t, flag, place), 4), end_line();
 }
 
 static void show_instant(const int64_t n[12]) {
@@ -470,13 +472,14 @@ static void run_vector(const char *text) {
         }
         show_covered_share(n);
     } else {
-        uint32_t body = *text == 'm';
+        const uint32_t body = *text == 'm', now = 0;
         if (!is_kind(text, body ? "moon" : "sun")) {
             put_text("a vector of no known kind\n");
             return;
         }
         twelve(n);
         show_place(n, body, air_word());
+        show_batch(n, body, &now, 1, 1, 1);
         show_instant(n);
         show_day_count(n[0], n[1], n[2]);
     }

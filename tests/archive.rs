@@ -14,6 +14,7 @@ extern "C" {
         air: u32,
         pressure: f64,
         temperature: f64,
+        has_azimuth: *mut u32,
         place: *mut [i64; 2],
     ) -> u32;
     pub fn raddlehue_shown_place(
@@ -23,6 +24,7 @@ extern "C" {
         air: u32,
         pressure: f64,
         temperature: f64,
+        has_azimuth: *mut u32,
         shown: *mut [f64; 3],
     ) -> u32;
     pub fn raddlehue_batch(
@@ -78,24 +80,29 @@ pub const fn measured(pressure: f64, temperature: f64) -> Air {
     Air { kind: 2, pressure, temperature }
 }
 
+// What stands in a batch's azimuths where there is none, and is the arctangent of two zeros.
+pub const NO_DIRECTION: i64 = i64::MAX;
+
 pub const POISON: i64 = 0x5a5a_5a5a_5a5a_5a5a;
 
 // A refusal, and what the lent memory holds after the call.
 pub type Answer<T> = (u32, T);
 
+// In fours of bytes, so that none lie unwatched between a flag and its poison.
 #[repr(C)]
 struct Lent<T> {
-    before: [i64; 4],
+    before: [u32; 8],
     answer: T,
-    after: [i64; 4],
+    after: [u32; 8],
 }
 
 // The call gets a pointer into the whole of it, so that a write beside the answer is seen and not optimised away.
 fn lent<T: Copy>(poison: T, call: impl FnOnce(*mut T) -> u32) -> Answer<T> {
-    let mut lent = Lent { before: [POISON; 4], answer: poison, after: [POISON; 4] };
+    const BESIDE: [u32; 8] = [POISON as u32; 8];
+    let mut lent = Lent { before: BESIDE, answer: poison, after: BESIDE };
     let whole: *mut Lent<T> = &mut lent;
     let refusal = call(unsafe { ptr::addr_of_mut!((*whole).answer) });
-    assert_eq!([lent.before, lent.after], [[POISON; 4]; 2], "written beside the answer");
+    assert_eq!([lent.before, lent.after], [BESIDE; 2], "written beside the answer");
     (refusal, lent.answer)
 }
 
@@ -130,15 +137,37 @@ pub fn point_of(numbers: &[i64; 12]) -> &[i64; 3] {
     numbers.last_chunk().unwrap()
 }
 
-pub fn place(numbers: &[i64; 12], body: u32, air: Air) -> Answer<[i64; 2]> {
-    let (start, point) = (start_of(numbers), point_of(numbers));
-    poisoned(|at| unsafe { raddlehue_place(start, body, point, air.kind, air.pressure, air.temperature, at) })
+// What the memory of a place holds: whether there is an azimuth, and two numbers; of a shown place, three.
+#[derive(Clone, Copy, Debug, PartialEq)]
+pub struct Seen<const N: usize> {
+    pub has_azimuth: u32,
+    pub numbers: [i64; N],
 }
 
-// In bits, as all doubles here: two that are equal need not be the same.
-pub fn shown_place(numbers: &[i64; 12], body: u32, air: Air) -> Answer<[i64; 3]> {
+impl<const N: usize> Seen<N> {
+    pub const UNWRITTEN: Self = Seen { has_azimuth: POISON as u32, numbers: [POISON; N] };
+}
+
+fn seen<const N: usize>(call: impl FnOnce(*mut u32, *mut [i64; N]) -> u32) -> Answer<Seen<N>> {
+    let mut has_azimuth = Seen::<N>::UNWRITTEN.has_azimuth;
+    let (refusal, numbers) = poisoned(|numbers| {
+        let (refusal, flag) = lent(has_azimuth, |flag| call(flag, numbers));
+        has_azimuth = flag;
+        refusal
+    });
+    (refusal, Seen { has_azimuth, numbers })
+}
+
+// Azimuth and elevation.
+pub fn place(numbers: &[i64; 12], body: u32, air: Air) -> Answer<Seen<2>> {
     let (start, point) = (start_of(numbers), point_of(numbers));
-    poisoned(|at| unsafe { raddlehue_shown_place(start, body, point, air.kind, air.pressure, air.temperature, at.cast()) })
+    seen(|flag, at| unsafe { raddlehue_place(start, body, point, air.kind, air.pressure, air.temperature, flag, at) })
+}
+
+// Azimuth, elevation and refraction, in bits, as all doubles here: two that are equal need not be the same.
+pub fn shown_place(numbers: &[i64; 12], body: u32, air: Air) -> Answer<Seen<3>> {
+    let (start, point) = (start_of(numbers), point_of(numbers));
+    seen(|flag, at| unsafe { raddlehue_shown_place(start, body, point, air.kind, air.pressure, air.temperature, flag, at.cast()) })
 }
 
 // Index and count. An empty list has a null pointer.

@@ -65,9 +65,9 @@ fn vectors(path: &str) {
 // The elevation of a place at a minute of a day.
 fn elevation(numbers: &[i64; 8], minute: usize, body: u32) -> i64 {
     let request = at_minute(numbers, minute);
-    let (refusal, place) = place(&request, body, NO_AIR);
+    let (refusal, seen) = place(&request, body, NO_AIR);
     assert_eq!(refusal, 0, "{request:?}");
-    place[1]
+    seen.numbers[1]
 }
 
 // The day before is given, since a calendar is another test's matter; the first of all has none.

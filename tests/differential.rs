@@ -4,10 +4,11 @@
 //
 // COUNT requests for a place, each asked for plainly and as shown, and with them instants, batches, middles, refractions (many of them at the limit below which there is
 // none), covered shares of three numbers, the leaves and the sums at an instant; for every fourth an eclipse, half of these near one that was; for every sixteenth a place is
-// moved east or west to where the body stands at that limit, and asked for on both sides; of whole days, which are 1,440 places each, one for every 200 requests, and damaged
-// ones, which cost nothing, for every eighth.
+// moved east or west to where the body stands at that limit, and asked for on both sides, and to where it stands straight overhead or underfoot, if there is such a point then,
+// and asked for there, a unit beside and within a batch; of whole days, which are 1,440 places each, one for every 200 requests, and damaged ones, which cost nothing, for
+// every eighth.
 // A refused call writes nothing: its memory stays poisoned. The first mismatch ends the run with the request that gave it, and so does a refusal that no request
-// of the run was given, a side of that limit or a case of the share that none had (in a run of some thousands all are).
+// of the run was given, a side of that limit, a body without an azimuth, a mark in a batch or a case of the share that none had (in a run of some thousands all are).
 use std::env;
 use std::fmt::Debug;
 use std::process::exit;
@@ -17,6 +18,7 @@ use raddlehue_reference as reference;
 mod archive;
 mod random_days;
 mod random_eclipses;
+mod random_overhead;
 use archive::*;
 
 const FULL_TURN: i64 = 36_000_000_000;
@@ -192,6 +194,13 @@ fn answer<const N: usize>(found: Result<[i64; N], u32>) -> Answer<[i64; N]> {
     }
 }
 
+fn answer_seen<T, const N: usize>(found: Result<(Option<T>, [i64; N]), u32>) -> Answer<Seen<N>> {
+    match found {
+        Ok((azimuth, numbers)) => (0, Seen { has_azimuth: u32::from(azimuth.is_some()), numbers }),
+        Err(refusal) => (refusal, Seen::UNWRITTEN),
+    }
+}
+
 fn answer_one(found: Result<i64, u32>) -> Answer<i64> {
     match found {
         Ok(value) => (0, value),
@@ -200,7 +209,7 @@ fn answer_one(found: Result<i64, u32>) -> Answer<i64> {
 }
 
 // How often each refusal was given, by the kind of the call.
-struct Seen {
+struct Tally {
     places: [u64; 256],
     instants: [u64; 256],
     batches: [u64; 256],
@@ -212,6 +221,11 @@ struct Seen {
     shares: [u64; 256],
     // of the places next to the limit of refraction, those below it and those that are not
     limits: [u64; 2],
+    // of the places at a point without an azimuth and beside it, by OVERHEAD; of the batches that have such a place, by MARKS
+    overhead: [u64; OVERHEAD.len()],
+    marks: [u64; MARKS.len()],
+    // arctangents of two zeros
+    origins: u64,
     // of the accepted days, those without a rise, without a set, and with one of them at minute 0
     crossings: [u64; 3],
     // of the accepted eclipses that were drawn near one, and of the accepted triples, those of each case of the share
@@ -227,21 +241,25 @@ fn same<T: PartialEq + Debug>(what: &str, input: impl Debug, ours: Answer<T>, ex
     seen[ours.0 as usize] += 1;
 }
 
-fn place_of(asked: &Request, seen: &mut Seen) {
+fn place_of(asked: &Request, seen: &mut Tally) -> Answer<Seen<2>> {
     let (start, body, point) = (asked.reference_start(), asked.reference_body(), asked.reference_point());
     let air = reference_air(asked.air);
     let known = body_refusal(asked.body).and_then(|()| kind_refusal(asked.air.kind));
     let plain = known.and_then(|()| reference::place(start, body, point, air).map_err(u32::from));
-    let expected = answer(plain.map(|place| [place.azimuth, place.elevation]));
+    let expected = answer_seen(plain.map(|place| (place.azimuth, [place.azimuth.unwrap_or(0), place.elevation])));
     same("place", asked, place(&asked.numbers, asked.body, asked.air), expected, &mut seen.places);
     let shown = known.and_then(|()| reference::shown_place(start, body, point, air).map_err(u32::from));
-    let doubles = shown.map(|shown| [shown.azimuth, shown.elevation, shown.refraction].map(|x| x.to_bits() as i64));
-    same("shown place", asked, shown_place(&asked.numbers, asked.body, asked.air), answer(doubles), &mut seen.places);
+    let doubles = shown.map(|shown| {
+        let doubles = [shown.azimuth.unwrap_or(0.0), shown.elevation, shown.refraction];
+        (shown.azimuth, doubles.map(|x| x.to_bits() as i64))
+    });
+    same("shown place", asked, shown_place(&asked.numbers, asked.body, asked.air), answer_seen(doubles), &mut seen.places);
+    expected
 }
 
 // The place where refraction begins: of two longitudes that lie on both sides of the limit, the two neighbours between them that do, where the elevation changes by some
 // ten units. Nothing where the request is refused, or the body is on one side of the limit from both.
-fn limit_of(random: &mut Random, asked: &Request, seen: &mut Seen) {
+fn limit_of(random: &mut Random, asked: &Request, seen: &mut Tally) {
     let (start, body, point) = (asked.reference_start(), asked.reference_body(), asked.reference_point());
     let is_refracted = |longitude| {
         let found = reference::place(start, body, reference::Point { longitude, ..point }, reference::Air::None);
@@ -268,14 +286,57 @@ fn limit_of(random: &mut Random, asked: &Request, seen: &mut Seen) {
     }
 }
 
+// What is asked for about a point without an azimuth: the Sun's and the Moon's, each overhead and underfoot; a unit beside it, where there is an azimuth; and what is refused.
+const OVERHEAD: [&str; 6] = ["the Sun's overhead", "underfoot", "the Moon's overhead", "underfoot", "beside one and with an azimuth", "refused"];
+
+// The place moved to where its body stands straight overhead or underfoot, and to the four points a unit away; then within a batch. Nothing where the request is refused
+// or the instant has no such point. Of an eclipse the elevation counts there all the same.
+fn overhead_of(random: &mut Random, asked: &Request, seen: &mut Tally) {
+    let is_overhead = random.one_in(2);
+    let (start, body, height) = (asked.reference_start(), asked.reference_body(), asked.numbers[11]);
+    let Some(point) = random_overhead::without_azimuth(start, body, height, is_overhead) else { return };
+    let mut moved = *asked;
+    for [east, north] in [[-1, 0], [1, 0], [0, -1], [0, 1], [0, 0]] {
+        moved.numbers[9..11].copy_from_slice(&[random_days::reduced(point.longitude + east), point.latitude + north]);
+        let case = match place_of(&moved, seen) {
+            (0, Seen { has_azimuth: 0, .. }) => 2 * asked.body as usize + usize::from(!is_overhead),
+            (0, _) => 4,
+            _ => 5,
+        };
+        seen.overhead[case] += 1;
+    }
+    plain_eclipse(&moved, seen);
+    marked_batch(random, &moved, seen);
+}
+
+// Where a batch has the mark.
+const MARKS: [&str; 4] = ["at the first entry", "at one between", "at the last", "and was refused"];
+
+// A batch from midnight on, the request's own moment, which has no azimuth, at one of its entries; any other offset may be too late.
+fn marked_batch(random: &mut Random, asked: &Request, seen: &mut Tally) {
+    let [_, _, _, hour, minute, second, tenth, ..] = asked.numbers;
+    let mut from_midnight = *asked;
+    from_midnight.numbers[3..7].fill(0);
+    let mut offsets: Vec<u32> = (0..3 + random.below(4)).map(|_| random.below(2 * 864_000) as u32).collect();
+    let place = random.below(3) as usize;
+    let entry = [0, offsets.len() / 2, offsets.len() - 1][place];
+    offsets[entry] = (36_000 * hour + 600 * minute + 10 * second + tenth) as u32;
+    let case = match asked_batch(random, &from_midnight, &offsets, seen) {
+        Some(azimuths) if azimuths[entry] == NO_DIRECTION => place,
+        Some(azimuths) => panic!("no mark at entry {entry} of {azimuths:?}, of {asked:?}"),
+        None => 3,
+    };
+    seen.marks[case] += 1;
+}
+
 // UT is UTC with UT1 minus UTC added, TT is UT with delta-T added, both from noon.
-fn instant_of(asked: &Request, seen: &mut Seen) {
+fn instant_of(asked: &Request, seen: &mut Tally) {
     let found = reference::instant::Instant::new(&asked.reference_start()).map_err(u32::from);
     let expected = answer(found.map(|found| [found.ut, found.tt]));
     same("instant", asked, instant(start_of(&asked.numbers)), expected, &mut seen.instants);
 }
 
-fn batch_of(random: &mut Random, asked: &mut Request, seen: &mut Seen) {
+fn batch_of(random: &mut Random, asked: &mut Request, seen: &mut Tally) {
     let late = random.one_in(4);
     if late {
         asked.numbers[..3].copy_from_slice(&[2100, 12, 31]);
@@ -284,28 +345,36 @@ fn batch_of(random: &mut Random, asked: &mut Request, seen: &mut Seen) {
     let count = random.below(7) as usize;
     let widest = if late { 40_000 } else { u64::from(u32::MAX) };
     let offsets: Vec<u32> = (0..count).map(|_| random.below(widest + 1) as u32).collect();
-    let mut lengths = [count; 2].map(|count| (count + random.below(3) as usize).saturating_sub(usize::from(random.one_in(8))));
+    asked_batch(random, asked, &offsets, seen);
+}
+
+// The batch into buffers of about the list's length; what the azimuths' holds after, where it is accepted.
+fn asked_batch(random: &mut Random, asked: &Request, offsets: &[u32], seen: &mut Tally) -> Option<Vec<i64>> {
+    let mut lengths =
+        [offsets.len(); 2].map(|count| (count + random.below(3) as usize).saturating_sub(usize::from(random.one_in(8))));
     if random.one_in(10) {
         lengths[0] = 0;
     }
     let fresh = lengths.map(|length| (0..length).map(|_| random.next() as i64).collect::<Vec<i64>>());
     let (mut ours, mut theirs) = (fresh.clone(), fresh);
     let [azimuths, elevations] = &mut ours;
-    let found = batch(&asked.numbers, asked.body, &offsets, azimuths, elevations);
+    let found = batch(&asked.numbers, asked.body, offsets, azimuths, elevations);
     let [azimuths, elevations] = &mut theirs;
     let (start, body, point) = (asked.reference_start(), asked.reference_body(), asked.reference_point());
     let expected = match body_refusal(asked.body) {
         Err(refusal) => answer(Err(refusal)),
-        Ok(()) => match reference::batch(start, body, point, &offsets, azimuths, elevations) {
+        Ok(()) => match reference::batch(start, body, point, offsets, azimuths, elevations) {
             Ok(count) => (0, [0, count as i64]),
             Err((13, index)) => (13, [index as i64, 0]),
             Err((refusal, _)) => answer(Err(u32::from(refusal))),
         },
     };
-    let input = (asked, &offsets, lengths);
-    same("batch", &input, found, expected, &mut seen.batches);
+    let input = (asked, offsets, lengths);
+    same("batch", input, found, expected, &mut seen.batches);
     // the buffers, each as it is left
-    same("buffers of a batch", &input, (found.0, ours), (found.0, theirs), &mut [0; 256]);
+    same("buffers of a batch", input, (found.0, &ours), (found.0, &theirs), &mut [0; 256]);
+    let [azimuths, _] = ours;
+    (found.0 == 0).then_some(azimuths)
 }
 
 fn reference_day(numbers: &[i64; 8], body: u32) -> Result<Day, u32> {
@@ -317,7 +386,7 @@ fn reference_day(numbers: &[i64; 8], body: u32) -> Result<Day, u32> {
 }
 
 // Of two curves that differ, the first minute that does says more than both of them.
-fn day_of((numbers, body): ([i64; 8], u32), seen: &mut Seen) {
+fn day_of((numbers, body): ([i64; 8], u32), seen: &mut Tally) {
     let (refusal, ours) = day(&numbers, body);
     let found = body_refusal(body).and_then(|()| reference_day(&numbers, body));
     let expected_refusal = found.err().unwrap_or(0);
@@ -334,19 +403,23 @@ fn day_of((numbers, body): ([i64; 8], u32), seen: &mut Seen) {
     }
 }
 
-fn eclipse_of(random: &mut Random, asked: &Request, seen: &mut Seen) {
+fn eclipse_of(random: &mut Random, asked: &Request, seen: &mut Tally) {
     let is_near = random.one_in(2);
     let numbers = if is_near { random_eclipses::near(random) } else { asked.numbers };
-    let asked = Request { numbers, ..*asked };
-    let found = reference::eclipse(asked.reference_start(), asked.reference_point()).map_err(u32::from);
-    let expected = answer(found.map(|found| [found.separation, found.sun_radius, found.moon_radius, found.share]));
-    same("eclipse", numbers, eclipse(&numbers), expected, &mut seen.eclipses);
-    if let (0, [separation, sun, moon, _], true) = (expected.0, expected.1, is_near) {
+    let found = plain_eclipse(&Request { numbers, ..*asked }, seen);
+    if let (0, [separation, sun, moon, _], true) = (found.0, found.1, is_near) {
         seen.eclipse_cases[random_eclipses::case_of([separation, sun, moon])] += 1;
     }
 }
 
-fn share_of(random: &mut Random, seen: &mut Seen) {
+fn plain_eclipse(asked: &Request, seen: &mut Tally) -> Answer<[i64; 4]> {
+    let found = reference::eclipse(asked.reference_start(), asked.reference_point()).map_err(u32::from);
+    let expected = answer(found.map(|found| [found.separation, found.sun_radius, found.moon_radius, found.share]));
+    same("eclipse", asked.numbers, eclipse(&asked.numbers), expected, &mut seen.eclipses);
+    expected
+}
+
+fn share_of(random: &mut Random, seen: &mut Tally) {
     let disks = random_eclipses::triple(random);
     let [separation, sun, moon] = disks;
     let judged = if reference::eclipse::are_disks(separation, sun, moon) { Ok(()) } else { Err(105) };
@@ -366,7 +439,7 @@ fn azimuth(random: &mut Random) -> i64 {
     }
 }
 
-fn middle_of(random: &mut Random, seen: &mut Seen) {
+fn middle_of(random: &mut Random, seen: &mut Tally) {
     let a = azimuth(random);
     let b = match random.below(6) {
         0 => a.wrapping_add(FULL_TURN / 2),
@@ -378,7 +451,7 @@ fn middle_of(random: &mut Random, seen: &mut Seen) {
     same("middle", (a, b), middle(a, b), expected, &mut seen.middles);
 }
 
-fn refraction_of(random: &mut Random, air: Air, seen: &mut Seen) {
+fn refraction_of(random: &mut Random, air: Air, seen: &mut Tally) {
     let elevation = match random.below(16) {
         0 => random.outside(-QUARTER_TURN, QUARTER_TURN),
         1..4 => LOWEST_REFRACTED + random.between(-3, 3),
@@ -402,14 +475,17 @@ fn about_square(random: &mut Random) -> u64 {
     (root * root).wrapping_add(random.below(3)).wrapping_sub(1)
 }
 
-fn leaves(random: &mut Random) {
-    let (x, y, square) = (any(random), any(random), about_square(random));
+fn leaves(random: &mut Random, seen: &mut Tally) {
+    let (x, y) = if random.one_in(256) { (0, 0) } else { (any(random), any(random)) };
+    let square = about_square(random);
     let ours = unsafe { (raddlehue_sine(x), raddlehue_cosine(x), raddlehue_arctangent(y, x), raddlehue_root(x as u64), raddlehue_root(square)) };
-    let expected = (reference::sine(x), reference::cosine(x), reference::arctangent(y, x), reference::root(x as u64), reference::root(square));
+    let direction = reference::arctangent(y, x).unwrap_or(NO_DIRECTION);
+    let expected = (reference::sine(x), reference::cosine(x), direction, reference::root(x as u64), reference::root(square));
     same("sine, cosine, arctangent, root, root", (x, y, square), (0, ours), (0, expected), &mut [0; 256]);
+    seen.origins += u64::from((x, y) == (0, 0));
 }
 
-fn sums_at(random: &mut Random, seen: &mut Seen) {
+fn sums_at(random: &mut Random, seen: &mut Tally) {
     let n = match random.below(16) {
         0 => random.outside(-FURTHEST, FURTHEST),
         _ => random.field(-FURTHEST, FURTHEST),
@@ -424,7 +500,7 @@ fn sums_at(random: &mut Random, seen: &mut Seen) {
     same("mean sidereal time", n, mean_sidereal(n), answer_one(reached.map(reference::mean_sidereal)), &mut seen.sums);
 }
 
-fn date(random: &mut Random, asked: &Request, seen: &mut Seen) {
+fn date(random: &mut Random, asked: &Request, seen: &mut Tally) {
     let [year, month, mut day, ..] = asked.numbers;
     if random.one_in(4) {
         day = random.between(0, 32);
@@ -456,7 +532,7 @@ fn all_drawn(what: &str, names: &[&str], counts: &[u64]) -> String {
     format!("    {what} {}", pairs.join(", "))
 }
 
-fn draw(random: &mut Random, turn: u64, seen: &mut Seen) {
+fn draw(random: &mut Random, turn: u64, seen: &mut Tally) {
     let mut asked = request(random);
     place_of(&asked, seen);
     instant_of(&asked, seen);
@@ -464,9 +540,10 @@ fn draw(random: &mut Random, turn: u64, seen: &mut Seen) {
     refraction_of(random, asked.air, seen);
     middle_of(random, seen);
     share_of(random, seen);
-    leaves(random);
+    leaves(random, seen);
     if turn % 16 == 0 {
         limit_of(random, &asked, seen);
+        overhead_of(random, &asked, seen);
     }
     if turn % 4 == 0 {
         eclipse_of(random, &asked, seen);
@@ -482,7 +559,7 @@ fn draw(random: &mut Random, turn: u64, seen: &mut Seen) {
 }
 
 // What was drawn, a line for each kind.
-fn summary(seen: &Seen) -> Vec<String> {
+fn summary(seen: &Tally) -> Vec<String> {
     vec![
         complete("places", &seen.places, (1..=11).chain([101, 102])),
         complete("instants and dates", &seen.instants, 1..=6),
@@ -490,6 +567,9 @@ fn summary(seen: &Seen) -> Vec<String> {
         complete("middles", &seen.middles, [14, 15]),
         complete("refractions", &seen.refractions, [10, 11, 102, 103]),
         all_drawn("places next to the limit of refraction,", &["below it", "not below it"], &seen.limits),
+        all_drawn("places without an azimuth,", &OVERHEAD, &seen.overhead),
+        all_drawn("batches that have one,", &MARKS, &seen.marks),
+        all_drawn("arctangents", &["of two zeros"], &[seen.origins]),
         complete("sums", &seen.sums, [104]),
         complete("days", &seen.days, [1, 2, 3, 5, 6, 7, 8, 9, 101]),
         format!("    days without a rise {}, without a set {}, with one at minute 0 {}", seen.crossings[0], seen.crossings[1], seen.crossings[2]),
@@ -505,7 +585,7 @@ fn main() {
     let count = numbers.first().copied().unwrap_or(1_000_000);
     let mut random = Random(numbers.get(1).copied().unwrap_or(1));
     let none = [0; 256];
-    let mut seen = Seen {
+    let mut seen = Tally {
         places: none,
         instants: none,
         batches: none,
@@ -516,6 +596,9 @@ fn main() {
         eclipses: none,
         shares: none,
         limits: [0; 2],
+        overhead: [0; OVERHEAD.len()],
+        marks: [0; MARKS.len()],
+        origins: 0,
         crossings: [0; 3],
         eclipse_cases: [0; 4],
         share_cases: [0; 4],

@@ -65,7 +65,7 @@ fn sun_radius(tt: i64) -> i64 {
 // Equation 59, with the Moon's own distance and its elevation as a place has it. The divisions are floors.
 fn moon_radius(request: &[i64; 12], tt: i64) -> i64 {
     let [_, _, metres] = accepted(moon_sums(tt));
-    let [_, elevation] = accepted(place(request, MOON, NO_AIR));
+    let [_, elevation] = accepted(place(request, MOON, NO_AIR)).numbers;
     let parallax = 6_378_140_000_000_000 / metres;
     let sine = unsafe { raddlehue_sine(elevation) };
     358_473_400 * (1_000_000_000 + (parallax * sine).div_euclid(1_000_000_000)) / (36 * metres)

@@ -42,25 +42,26 @@ fn reference_body(body: u32) -> reference::Body {
 }
 
 fn place_of(body: u32, call: u64) -> i64 {
-    let mut place = [0; 2];
-    unsafe { raddlehue_place(&numbers(call), body, &POINT, AIR.kind, AIR.pressure, AIR.temperature, &mut place) };
-    place[0] ^ place[1]
+    let (mut flag, mut place) = (0, [0; 2]);
+    unsafe { raddlehue_place(&numbers(call), body, &POINT, AIR.kind, AIR.pressure, AIR.temperature, &mut flag, &mut place) };
+    i64::from(flag) ^ place[0] ^ place[1]
 }
 
 fn reference_place(body: u32, call: u64) -> i64 {
     let place = reference::place(reference_start(numbers(call)), reference_body(body), reference_point(POINT), reference_air());
-    place.map_or(0, |place| place.azimuth ^ place.elevation)
+    place.map_or(0, |place| i64::from(place.azimuth.is_some()) ^ place.azimuth.unwrap_or(0) ^ place.elevation)
 }
 
 fn shown_of(body: u32, call: u64) -> i64 {
-    let mut shown = [0.0; 3];
-    unsafe { raddlehue_shown_place(&numbers(call), body, &POINT, AIR.kind, AIR.pressure, AIR.temperature, &mut shown) };
-    (shown[0].to_bits() ^ shown[1].to_bits()) as i64
+    let (mut flag, mut shown) = (0, [0.0; 3]);
+    unsafe { raddlehue_shown_place(&numbers(call), body, &POINT, AIR.kind, AIR.pressure, AIR.temperature, &mut flag, &mut shown) };
+    i64::from(flag) ^ (shown[0].to_bits() ^ shown[1].to_bits()) as i64
 }
 
 fn reference_shown(body: u32, call: u64) -> i64 {
     let shown = reference::shown_place(reference_start(numbers(call)), reference_body(body), reference_point(POINT), reference_air());
-    shown.map_or(0, |shown| (shown.azimuth.to_bits() ^ shown.elevation.to_bits()) as i64)
+    let bits = |azimuth: f64, elevation: f64| (azimuth.to_bits() ^ elevation.to_bits()) as i64;
+    shown.map_or(0, |shown| i64::from(shown.azimuth.is_some()) ^ bits(shown.azimuth.unwrap_or(0.0), shown.elevation))
 }
 
 fn offsets() -> Vec<u32> {
@@ -230,7 +231,7 @@ const CALLS: [Call; 17] = [
         name: "arctangent",
         places: 1,
         ours: |call| unsafe { raddlehue_arctangent(angle(call) - 18_000_000_000, angle(call + 1)) },
-        reference: |call| reference::arctangent(angle(call) - 18_000_000_000, angle(call + 1)),
+        reference: |call| reference::arctangent(angle(call) - 18_000_000_000, angle(call + 1)).unwrap_or(NO_DIRECTION),
     },
     Call {
         name: "root",

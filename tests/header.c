@@ -3,6 +3,7 @@
 #include "raddlehue.h"
 #include "raddlehue.h"
 
+#include <stddef.h>
 #include <stdio.h>
 #include <string.h>
 
@@ -23,6 +24,15 @@ static const raddlehue_air_t standard = {RADDLEHUE_AIR_STANDARD, 0.0, 0.0};
 static const raddlehue_start_t sun_start = {2084, 10, 1, 16, 53, 51, 6, -5, 557};
 static const raddlehue_point_t sun_point = {-481509256, -499537563, 1954};
 static const raddlehue_air_t measured = {RADDLEHUE_AIR_MEASURED, 1200.0, 80.0};
+
+/* The Sun straight over Lahaina on Maui, by reference/: a tenth of a second before it is in the east, and a tenth after in the west. */
+static const raddlehue_start_t overhead_start = {2005, 7, 18, 22, 32, 59, 0, 0, 647};
+static const raddlehue_start_t tenth_before = {2005, 7, 18, 22, 32, 58, 9, 0, 647};
+static const raddlehue_point_t lahaina = {-1566828813, 208783487, 0};
+
+/* moon 2038 9 14 15 57 15 9 3 10224 -464318022 25923395 54 standard: straight underfoot */
+static const raddlehue_start_t underfoot_start = {2038, 9, 14, 15, 57, 15, 9, 3, 10224};
+static const raddlehue_point_t underfoot_point = {-464318022, 25923395, 54};
 
 /* batch moon 1901 10 16 9 53 46 7 -4 77549 -202447758 -340487719 5521 3 3 ; 2577 */
 static const raddlehue_start_t batch_start = {1901, 10, 16, 9, 53, 46, 7, -4, 77549};
@@ -59,6 +69,7 @@ static int constants(void)
     CHECK(strcmp(version, RADDLEHUE_VERSION) == 0);
     CHECK(RADDLEHUE_SECOND == 10 && RADDLEHUE_DEGREE_E7 == 10000000 && RADDLEHUE_DEGREE_E8 == 100000000);
     CHECK(RADDLEHUE_DAY_MINUTES == 1440 && RADDLEHUE_RISE_SET_E8 == -83330000 && RADDLEHUE_LOWEST_REFRACTED_E8 == -83337000);
+    CHECK(RADDLEHUE_NO_DIRECTION_E8 == (int64_t)(~(uint64_t)0 >> 1) && sizeof(RADDLEHUE_NO_DIRECTION_E8) == sizeof(int64_t));
     CHECK(RADDLEHUE_SUN == 0 && RADDLEHUE_MOON == 1);
     CHECK(RADDLEHUE_AIR_NONE == 0 && RADDLEHUE_AIR_STANDARD == 1 && RADDLEHUE_AIR_MEASURED == 2);
     return 0;
@@ -70,7 +81,10 @@ static int sizes(void)
     CHECK(sizeof(raddlehue_start_t) == 9 * sizeof(int64_t));
     CHECK(sizeof(raddlehue_point_t) == 3 * sizeof(int64_t));
     CHECK(sizeof(raddlehue_place_t) == 2 * sizeof(int64_t));
+    CHECK(offsetof(raddlehue_place_t, azimuth_if_any_e8) == 0 && offsetof(raddlehue_place_t, elevation_e8) == 8);
     CHECK(sizeof(raddlehue_shown_place_t) == 3 * sizeof(double));
+    CHECK(offsetof(raddlehue_shown_place_t, azimuth_if_any_degrees) == 0 && offsetof(raddlehue_shown_place_t, elevation_degrees) == 8);
+    CHECK(offsetof(raddlehue_shown_place_t, refraction_degrees) == 16);
     CHECK(sizeof(raddlehue_batch_t) == 2 * sizeof(uint64_t));
     CHECK(sizeof(raddlehue_date_t) == 5 * sizeof(int64_t));
     CHECK(sizeof(raddlehue_rise_set_t) == 4 * sizeof(uint32_t));
@@ -101,20 +115,23 @@ static int texts(void)
 
 static int place(void)
 {
+    uint32_t flag = 77;
     raddlehue_place_t place = {-7, -8};
     raddlehue_place_answer_t answer;
-    CHECK(raddlehue_place(&moon_start, 2, &moon_point, 3, 0.0, 0.0, &place) == RADDLEHUE_UNKNOWN_BODY);
-    CHECK(raddlehue_place(&moon_start, RADDLEHUE_MOON, &moon_point, 3, 0.0, 0.0, &place) == RADDLEHUE_UNKNOWN_AIR);
-    CHECK(raddlehue_place(&moon_start, RADDLEHUE_MOON, &moon_point, RADDLEHUE_AIR_MEASURED, 1200.5, 81.0, &place) == RADDLEHUE_PRESSURE);
-    CHECK(raddlehue_place(&moon_start, RADDLEHUE_MOON, &moon_point, RADDLEHUE_AIR_MEASURED, 1200.0, 81.0, &place) == RADDLEHUE_TEMPERATURE);
-    CHECK(place.azimuth_e8 == -7 && place.elevation_e8 == -8);
-    CHECK(raddlehue_place(&moon_start, RADDLEHUE_MOON, &moon_point, RADDLEHUE_AIR_STANDARD, 0.0, 0.0, &place) == RADDLEHUE_ACCEPTED);
-    CHECK(place.azimuth_e8 == 19009485461 && place.elevation_e8 == 3497984949);
+    CHECK(raddlehue_place(&moon_start, 2, &moon_point, 3, 0.0, 0.0, &flag, &place) == RADDLEHUE_UNKNOWN_BODY);
+    CHECK(raddlehue_place(&moon_start, RADDLEHUE_MOON, &moon_point, 3, 0.0, 0.0, &flag, &place) == RADDLEHUE_UNKNOWN_AIR);
+    CHECK(raddlehue_place(&moon_start, RADDLEHUE_MOON, &moon_point, RADDLEHUE_AIR_MEASURED, 1200.5, 81.0, &flag, &place) == RADDLEHUE_PRESSURE);
+    CHECK(raddlehue_place(&moon_start, RADDLEHUE_MOON, &moon_point, RADDLEHUE_AIR_MEASURED, 1200.0, 81.0, &flag, &place) == RADDLEHUE_TEMPERATURE);
+    CHECK(flag == 77 && place.azimuth_if_any_e8 == -7 && place.elevation_e8 == -8);
+    CHECK(raddlehue_place(&moon_start, RADDLEHUE_MOON, &moon_point, RADDLEHUE_AIR_STANDARD, 0.0, 0.0, &flag, &place) == RADDLEHUE_ACCEPTED);
+    CHECK(flag == 1 && place.azimuth_if_any_e8 == 19009485461 && place.elevation_e8 == 3497984949);
 
     answer = raddlehue_place_of(sun_start, RADDLEHUE_SUN, sun_point, measured);
-    CHECK(answer.refusal == RADDLEHUE_ACCEPTED && answer.azimuth_e8 == 32348562605 && answer.elevation_e8 == 3810078907);
+    CHECK(answer.refusal == RADDLEHUE_ACCEPTED && answer.has_azimuth == 1);
+    CHECK(answer.azimuth_if_any_e8 == 32348562605 && answer.elevation_e8 == 3810078907);
     answer = raddlehue_place_of(sun_start, 2, sun_point, measured);
-    CHECK(answer.refusal == RADDLEHUE_UNKNOWN_BODY && answer.azimuth_e8 == 0 && answer.elevation_e8 == 0);
+    CHECK(answer.refusal == RADDLEHUE_UNKNOWN_BODY && answer.has_azimuth == 0);
+    CHECK(answer.azimuth_if_any_e8 == 0 && answer.elevation_e8 == 0);
     return 0;
 }
 
@@ -153,22 +170,66 @@ static int refusals(void)
 
 static int shown_place(void)
 {
+    uint32_t flag = 77;
     raddlehue_shown_place_t shown = {-7.0, -8.0, -9.0};
     raddlehue_shown_place_answer_t answer;
-    CHECK(raddlehue_shown_place(&sun_start, 2, &sun_point, 3, 0.0, 0.0, &shown) == RADDLEHUE_UNKNOWN_BODY);
-    CHECK(raddlehue_shown_place(&sun_start, RADDLEHUE_SUN, &sun_point, 3, 0.0, 0.0, &shown) == RADDLEHUE_UNKNOWN_AIR);
-    CHECK(raddlehue_shown_place(&sun_start, RADDLEHUE_SUN, &sun_point, RADDLEHUE_AIR_MEASURED, 1200.0, 80.5, &shown) == RADDLEHUE_TEMPERATURE);
-    CHECK(shown.azimuth_degrees == -7.0 && shown.elevation_degrees == -8.0 && shown.refraction_degrees == -9.0);
-    CHECK(raddlehue_shown_place(&sun_start, RADDLEHUE_SUN, &sun_point, RADDLEHUE_AIR_MEASURED, 1200.0, 80.0, &shown) == RADDLEHUE_ACCEPTED);
-    CHECK(bits(shown.azimuth_degrees) == 0x407437c51fd22d5f && bits(shown.elevation_degrees) == 0x40430f8592fd1b44);
-    CHECK(bits(shown.refraction_degrees) == 0x3f94f757eb13390b);
+    CHECK(raddlehue_shown_place(&sun_start, 2, &sun_point, 3, 0.0, 0.0, &flag, &shown) == RADDLEHUE_UNKNOWN_BODY);
+    CHECK(raddlehue_shown_place(&sun_start, RADDLEHUE_SUN, &sun_point, 3, 0.0, 0.0, &flag, &shown) == RADDLEHUE_UNKNOWN_AIR);
+    CHECK(raddlehue_shown_place(&sun_start, RADDLEHUE_SUN, &sun_point, RADDLEHUE_AIR_MEASURED, 1200.0, 80.5, &flag, &shown) == RADDLEHUE_TEMPERATURE);
+    CHECK(flag == 77 && shown.azimuth_if_any_degrees == -7.0 && shown.elevation_degrees == -8.0 && shown.refraction_degrees == -9.0);
+    CHECK(raddlehue_shown_place(&sun_start, RADDLEHUE_SUN, &sun_point, RADDLEHUE_AIR_MEASURED, 1200.0, 80.0, &flag, &shown) == RADDLEHUE_ACCEPTED);
+    CHECK(flag == 1 && bits(shown.azimuth_if_any_degrees) == 0x407437c51fd22d5f);
+    CHECK(bits(shown.elevation_degrees) == 0x40430f8592fd1b44 && bits(shown.refraction_degrees) == 0x3f94f757eb13390b);
 
     answer = raddlehue_shown_place_of(moon_start, RADDLEHUE_MOON, moon_point, standard);
-    CHECK(answer.refusal == RADDLEHUE_ACCEPTED && bits(answer.azimuth_degrees) == 0x4067c3090c88fa65);
+    CHECK(answer.refusal == RADDLEHUE_ACCEPTED && answer.has_azimuth == 1 && bits(answer.azimuth_if_any_degrees) == 0x4067c3090c88fa65);
     CHECK(bits(answer.elevation_degrees) == 0x404180804f70a596 && bits(answer.refraction_degrees) == 0x3f98a4d15af7270f);
     answer = raddlehue_shown_place_of(moon_start, 2, moon_point, standard);
-    CHECK(answer.refusal == RADDLEHUE_UNKNOWN_BODY && answer.azimuth_degrees == 0.0);
+    CHECK(answer.refusal == RADDLEHUE_UNKNOWN_BODY && answer.has_azimuth == 0 && answer.azimuth_if_any_degrees == 0.0);
     CHECK(answer.elevation_degrees == 0.0 && answer.refraction_degrees == 0.0);
+    return 0;
+}
+
+/* No azimuth: the flag says so, and the number is 0. */
+static int no_azimuth(void)
+{
+    uint32_t flag = 77;
+    raddlehue_place_t place = {-7, -8};
+    raddlehue_place_answer_t answer = raddlehue_place_of(overhead_start, RADDLEHUE_SUN, lahaina, standard);
+    CHECK(raddlehue_place(&overhead_start, RADDLEHUE_SUN, &lahaina, RADDLEHUE_AIR_STANDARD, 0.0, 0.0, &flag, &place) == RADDLEHUE_ACCEPTED);
+    CHECK(flag == 0 && place.azimuth_if_any_e8 == 0 && place.elevation_e8 == 8999999993);
+    CHECK(answer.refusal == RADDLEHUE_ACCEPTED && answer.has_azimuth == 0);
+    CHECK(answer.azimuth_if_any_e8 == 0 && answer.elevation_e8 == 8999999993);
+    answer = raddlehue_place_of(underfoot_start, RADDLEHUE_MOON, underfoot_point, standard);
+    CHECK(answer.refusal == RADDLEHUE_ACCEPTED && answer.has_azimuth == 0);
+    CHECK(answer.azimuth_if_any_e8 == 0 && answer.elevation_e8 == -8999999993);
+    return 0;
+}
+
+static int no_azimuth_shown(void)
+{
+    uint32_t flag = 77;
+    raddlehue_shown_place_t shown = {-7.0, -8.0, -9.0};
+    raddlehue_shown_place_answer_t answer = raddlehue_shown_place_of(overhead_start, RADDLEHUE_SUN, lahaina, standard);
+    CHECK(raddlehue_shown_place(&overhead_start, RADDLEHUE_SUN, &lahaina, RADDLEHUE_AIR_STANDARD, 0.0, 0.0, &flag, &shown) == RADDLEHUE_ACCEPTED);
+    CHECK(flag == 0 && bits(shown.azimuth_if_any_degrees) == 0);
+    CHECK(bits(shown.elevation_degrees) == 0x40567fff78ef6395 && bits(shown.refraction_degrees) == 0xbf00d8ae5ee2ca9d);
+    CHECK(answer.refusal == RADDLEHUE_ACCEPTED && answer.has_azimuth == 0 && bits(answer.azimuth_if_any_degrees) == 0);
+    CHECK(bits(answer.elevation_degrees) == 0x40567fff78ef6395 && bits(answer.refraction_degrees) == 0xbf00d8ae5ee2ca9d);
+    return 0;
+}
+
+/* The mark stands in that entry alone, and the middle refuses it. */
+static int no_azimuth_in_a_batch(void)
+{
+    const uint32_t offsets[3] = {2, 1, 0};
+    int64_t azimuths[4] = {-7, -7, -7, -7}, elevations[4] = {-8, -8, -8, -8};
+    raddlehue_batch_answer_t answer = raddlehue_batch_of(tenth_before, RADDLEHUE_SUN, lahaina, offsets, 3, azimuths, 4, elevations, 4);
+    CHECK(answer.refusal == RADDLEHUE_ACCEPTED && answer.index == 0 && answer.count == 3);
+    CHECK(azimuths[0] == 26995783452 && azimuths[1] == RADDLEHUE_NO_DIRECTION_E8 && azimuths[2] == 8999156196 && azimuths[3] == -7);
+    CHECK(elevations[0] == 8999961083 && elevations[1] == 8999999993 && elevations[2] == 8999961083 && elevations[3] == -8);
+    CHECK(raddlehue_middle_of(azimuths[0], azimuths[1]).refusal == RADDLEHUE_NOT_REDUCED);
+    CHECK(raddlehue_middle_of(azimuths[1], azimuths[1]).refusal == RADDLEHUE_NOT_REDUCED);
     return 0;
 }
 
@@ -510,14 +571,15 @@ static int earth(void)
 static int numbers(void)
 {
     CHECK(raddlehue_sine(24350000002) == -894934362 && raddlehue_cosine(24350000002) == -446197812);
-    CHECK(raddlehue_arctangent(1, 0) == 9004472123 && raddlehue_arctangent(0, -1) == 18000000000 && raddlehue_arctangent(0, 0) == 0);
+    CHECK(raddlehue_arctangent(1, 0) == 9004472123 && raddlehue_arctangent(0, -1) == 18000000000);
+    CHECK(raddlehue_arctangent(0, 1) == 0 && raddlehue_arctangent(0, 0) == RADDLEHUE_NO_DIRECTION_E8);
     CHECK(raddlehue_root(1146635045) == 33862 && raddlehue_root(~(uint64_t)0) == 4294967295u);
     return 0;
 }
 
 int main(void)
 {
-    return constants() || sizes() || texts() || place() || refusals() || shown_place() || batch() || refused_batch() || empty_batch() ||
-           day() || days_without() || refused_day() || eclipse() || refused_eclipse() || covered_share() || middle() || refraction() ||
-           days_and_instants() || moon_and_sun() || earth() || numbers();
+    return constants() || sizes() || texts() || place() || refusals() || shown_place() || no_azimuth() || no_azimuth_shown() || batch() ||
+           no_azimuth_in_a_batch() || refused_batch() || empty_batch() || day() || days_without() || refused_day() || eclipse() ||
+           refused_eclipse() || covered_share() || middle() || refraction() || days_and_instants() || moon_and_sun() || earth() || numbers();
 }

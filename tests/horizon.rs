@@ -105,8 +105,8 @@ impl View {
     // The elevation without refraction, and as it is shown, in degrees.
     fn elevations(&self, minute: usize, air: Air) -> (i64, f64) {
         let request = at_minute(&self.numbers, minute);
-        let (refusal, [_, elevation]) = place(&request, self.body, air);
-        let (shown_refusal, [_, shown, _]) = shown_place(&request, self.body, air);
+        let (refusal, Seen { numbers: [_, elevation], .. }) = place(&request, self.body, air);
+        let (shown_refusal, Seen { numbers: [_, shown, _], .. }) = shown_place(&request, self.body, air);
         assert_eq!((refusal, shown_refusal), (0, 0), "{request:?}");
         (elevation, degrees_of(shown))
     }

@@ -3,10 +3,12 @@ use std::env;
 use std::fs;
 
 mod archive;
-use archive::{day_count, raddlehue_arctangent, raddlehue_cosine, raddlehue_root, raddlehue_sine, POISON};
+use archive::{day_count, raddlehue_arctangent, raddlehue_cosine, raddlehue_root, raddlehue_sine, NO_DIRECTION, POISON};
 
+// A line's numbers; of two zeros the arctangent is `none`, which is one number for C.
 fn numbers(text: &str) -> Vec<i64> {
-    text.split_whitespace().map(|word| word.parse().unwrap()).collect()
+    let number = |word: &str| if word == "none" { NO_DIRECTION } else { word.parse().unwrap() };
+    text.split_whitespace().map(number).collect()
 }
 
 // What the archive answers to a line of a kind that it has.

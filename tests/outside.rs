@@ -31,12 +31,15 @@ fn differences(line: &str) -> (bool, [f64; 2]) {
     let numbers: &[i64; 12] = whole.first_chunk().unwrap();
     let is_moon = words[12] == "moon";
     let [azimuth, elevation] = [13, 14].map(|at| number::<f64>(words[at]));
-    let (refusal, place) = place(numbers, if is_moon { MOON } else { SUN }, NO_AIR);
+    let (refusal, seen) = place(numbers, if is_moon { MOON } else { SUN }, NO_AIR);
     if refusal != 0 {
         fail(format!("{line}: refused {refusal}"));
     }
-    let turned = (place[0] as f64 / 1e8 - azimuth + 540.0).rem_euclid(360.0) - 180.0;
-    let up = place[1] as f64 / 1e8 - elevation;
+    if seen.has_azimuth != 1 {
+        fail(format!("{line}: no azimuth"));
+    }
+    let turned = (seen.numbers[0] as f64 / 1e8 - azimuth + 540.0).rem_euclid(360.0) - 180.0;
+    let up = seen.numbers[1] as f64 / 1e8 - elevation;
     (is_moon, [(turned * elevation.to_radians().cos()).abs(), up.abs()])
 }
 

@@ -3,7 +3,9 @@ use std::env;
 use std::fs;
 
 mod archive;
+mod vector_lines;
 use archive::*;
+use vector_lines::*;
 
 // The kinds of lines that run here, with how many the three files have.
 const KINDS: [(&str, usize); 5] = [("sun", 231), ("moon", 252), ("batch", 6), ("middle", 240), ("refr", 285)];
@@ -13,62 +15,6 @@ const AZIMUTH_BEFORE: i64 = -7;
 const ELEVATION_BEFORE: i64 = -8;
 
 // ---- the vectors
-
-fn numbers(text: &str) -> Vec<i64> {
-    text.split_whitespace().map(|word| word.parse().unwrap()).collect()
-}
-
-fn request(numbers: &[i64]) -> [i64; 12] {
-    numbers.try_into().unwrap_or_else(|_| panic!("{numbers:?} has {} numbers", numbers.len()))
-}
-
-// A double's bits.
-fn bits(word: &str) -> i64 {
-    u64::from_str_radix(word, 16).unwrap() as i64
-}
-
-fn double(word: &str) -> f64 {
-    f64::from_bits(bits(word) as u64)
-}
-
-fn body(name: &str) -> u32 {
-    match name {
-        "sun" => SUN,
-        "moon" => MOON,
-        _ => panic!("{name} is no body"),
-    }
-}
-
-fn air(words: &[&str]) -> Air {
-    match words {
-        ["none"] => NO_AIR,
-        ["standard"] => STANDARD,
-        ["measured", pressure, temperature] => measured(double(pressure), double(temperature)),
-        _ => panic!("{words:?} is no air"),
-    }
-}
-
-// What a call writes: these where it is accepted, nothing where it is refused. The vectors have zeros there.
-fn written<const N: usize>(refusal: u32, values: [i64; N]) -> Answer<[i64; N]> {
-    if refusal == 0 {
-        (0, values)
-    } else {
-        assert_eq!(values, [0; N]);
-        (refusal, [POISON; N])
-    }
-}
-
-fn check_place(body: u32, input: &str, expected: &str) {
-    let words: Vec<&str> = input.split_whitespace().collect();
-    let request = request(&numbers(&words[..12].join(" ")));
-    let air = air(&words[12..]);
-    let wanted: Vec<&str> = expected.split_whitespace().collect();
-    let refusal = wanted[0].parse().unwrap();
-    let units = [wanted[1], wanted[2]].map(|word| word.parse().unwrap());
-    let doubles = [wanted[3], wanted[4], wanted[5]].map(bits);
-    assert_eq!(place(&request, body, air), written(refusal, units), "{input}");
-    assert_eq!(shown_place(&request, body, air), written(refusal, doubles), "{input}");
-}
 
 fn check_batch(input: &str, expected: &str) {
     let (left, offsets) = input.split_once(';').unwrap();
@@ -113,7 +59,7 @@ fn vectors(paths: impl Iterator<Item = String>) -> usize {
             let (left, expected) = line.split_once(" |").unwrap();
             let (kind, input) = left.split_once(' ').unwrap();
             match kind {
-                "sun" | "moon" => check_place(body(kind), input, expected),
+                "sun" | "moon" => PlaceLine::of(line).check(),
                 "batch" => check_batch(input, expected),
                 "middle" => check_middle(input, expected),
                 "refr" => check_refraction(input, expected),
@@ -130,8 +76,8 @@ fn vectors(paths: impl Iterator<Item = String>) -> usize {
 
 // A request is refused by this number, and nothing is written.
 fn refused(n: &[i64; 12], body: u32, air: Air, refusal: u32) {
-    assert_eq!(place(n, body, air), (refusal, [POISON; 2]), "{n:?} {body} {air:?}");
-    assert_eq!(shown_place(n, body, air), (refusal, [POISON; 3]), "{n:?} {body} {air:?}");
+    assert_eq!(place(n, body, air), (refusal, Seen::UNWRITTEN), "{n:?} {body} {air:?}");
+    assert_eq!(shown_place(n, body, air), (refusal, Seen::UNWRITTEN), "{n:?} {body} {air:?}");
 }
 
 // A batch into buffers of these lengths is refused, and neither buffer changes.
@@ -238,7 +184,8 @@ fn day(body: u32) {
     assert_eq!(answer, (0, [0, 1440]));
     for minute in 0..1440 {
         (request[3], request[4]) = (minute as i64 / 60, minute as i64 % 60);
-        assert_eq!((0, [azimuths[minute], elevations[minute]]), place(&request, body, NO_AIR), "minute {minute}");
+        let seen = Seen { has_azimuth: 1, numbers: [azimuths[minute], elevations[minute]] };
+        assert_eq!((0, seen), place(&request, body, NO_AIR), "minute {minute}");
     }
     assert_eq!((&azimuths[1440..], &elevations[1440..]), (&[AZIMUTH_BEFORE; 1][..], &[ELEVATION_BEFORE; 2][..]));
 }

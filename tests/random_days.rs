@@ -94,7 +94,7 @@ pub fn damaged(random: &mut Random) -> ([i64; 8], u32) {
 }
 
 // A longitude, from 180 degrees west up to but not 180 east.
-fn reduced(longitude: i64) -> i64 {
+pub fn reduced(longitude: i64) -> i64 {
     (longitude + HALF_TURN_E7).rem_euclid(2 * HALF_TURN_E7) - HALF_TURN_E7
 }
 

@@ -19,7 +19,7 @@ static raddlehue_point_t point = {-1051786000, 397424760, 1830};
 static raddlehue_start_t eclipse_start = {2009, 7, 22, 1, 33, 0, 0, 0, 664};
 static raddlehue_point_t eclipse_point = {1433616700, 246116700, 0};
 static const double pressure = 820.0, temperature = 11.0;
-static uint32_t body;
+static uint32_t body, has_azimuth;
 static uint32_t offsets[COUNT];
 static int64_t azimuths[COUNT], elevations[COUNT], curve[MINUTES];
 static raddlehue_place_t place;
@@ -36,8 +36,10 @@ static double degrees;
 static volatile uint64_t kept;
 
 static void nothing(void) {}
-static void plain_place(void) { kept = raddlehue_place(&start, body, &point, RADDLEHUE_AIR_MEASURED, pressure, temperature, &place); }
-static void shown_place(void) { kept = raddlehue_shown_place(&start, body, &point, RADDLEHUE_AIR_MEASURED, pressure, temperature, &shown); }
+static void plain_place(void) { kept = raddlehue_place(&start, body, &point, RADDLEHUE_AIR_MEASURED, pressure, temperature, &has_azimuth, &place); }
+static void shown_place(void) {
+    kept = raddlehue_shown_place(&start, body, &point, RADDLEHUE_AIR_MEASURED, pressure, temperature, &has_azimuth, &shown);
+}
 static void batch(void) { kept = raddlehue_batch(&start, body, &point, offsets, COUNT, azimuths, COUNT, elevations, COUNT, &told); }
 static void day(void) { kept = raddlehue_day(&date, body, &point, curve, &rise_set); }
 static void eclipse(void) { kept = raddlehue_eclipse(&eclipse_start, &eclipse_point, &disks); }

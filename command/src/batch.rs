@@ -5,7 +5,7 @@
 use crate::decimal::{self, Misread};
 use crate::delta_t::Scales;
 use crate::failure::{quoted, Failure};
-use crate::format::{self, angle, format_help, Format};
+use crate::format::{self, angle, format_help, no_azimuth_words, Format, NONE};
 use crate::observer::{self, observer_help, range_words, scales_words, Observer};
 use crate::place::body;
 use crate::sky::{self, Body, Place, SECOND_DECIMALS};
@@ -149,11 +149,15 @@ fn text(track: &Track) -> String {
         None => format!("{name} at times\n"),
     };
     text += &format!("{}\n{}", track.observer.words(), heading_scales(track));
-    text += "azimuth in degrees from north over east\nelevation in degrees above the horizon, without refraction\n\n";
+    text += &format!(
+        "azimuth in degrees from north over east\n{}elevation in degrees above the horizon, without refraction\n\n",
+        no_azimuth_words(track.rows.iter().map(|row| (track.body, row.place)))
+    );
     let width = track.rows.iter().map(|row| row.line.len()).max().unwrap_or(0).max(what.len());
     text += &format!("{what:>width$}  {:>12}  {:>12}\n", "azimuth", "elevation");
     for Row { line, place, .. } in &track.rows {
-        text += &format!("{line:>width$}  {:>12}  {:>12}\n", angle(place.azimuth_e8), angle(place.elevation_e8));
+        let azimuth = format::azimuth(*place).unwrap_or(NONE.to_string());
+        text += &format!("{line:>width$}  {azimuth:>12}  {:>12}\n", angle(place.elevation_e8));
     }
     text
 }

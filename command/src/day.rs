@@ -2,7 +2,7 @@
 
 use crate::delta_t::Scales;
 use crate::failure::{quoted, Failure};
-use crate::format::{self, format_help, shown_place, Format};
+use crate::format::{self, format_help, no_azimuth_words, shown_place, Format};
 use crate::observer::{self, observer_help, scales_words, zone_help, Observer};
 use crate::rise_set::{passed_degrees, Day, Days};
 use crate::sky::{self, Body, Place};
@@ -95,7 +95,7 @@ fn text(table: &Table) -> String {
     let mut text = format!(
         "Sun and Moon on {}, times in {}\n{}\n{}{}\n{}\n\
          rise and set when the centre passes {} degrees, without refraction, to the minute\n\
-         azimuth in degrees from north over east\nelevation in degrees above the horizon, without refraction\n\n\
+         azimuth in degrees from north over east\n{}elevation in degrees above the horizon, without refraction\n\n\
          time   Sun azimuth  Sun elevation  Moon azimuth  Moon elevation\n",
         table.midnight.clock().date.written(),
         table.midnight.zone().words(),
@@ -103,7 +103,8 @@ fn text(table: &Table) -> String {
         scales_words(table.scales),
         table.days[0].sentence(),
         table.days[1].sentence(),
-        passed_degrees()
+        passed_degrees(),
+        no_azimuth_words(table.rows.iter().flat_map(|row| [(Body::Sun, row.sun), (Body::Moon, row.moon)]))
     );
     for Row { moment, sun, moon } in &table.rows {
         let (sun, moon) = (shown_place(*sun), shown_place(*moon));

@@ -6,12 +6,9 @@ pub enum Misread {
     Form,
     /// More decimals than are kept.
     Decimals,
-    /// More digits than any number of this program has.
+    /// More than 64 bits hold.
     Size,
 }
-
-/// Enough for every number asked for, and few enough for 64 bits.
-const MOST_DIGITS: usize = 18;
 
 /// `word` in units of 10 to the minus `decimals`: "-1.5" with 2 decimals is -150.
 ///
@@ -34,11 +31,10 @@ pub fn read(word: &str, decimals: usize) -> Result<i64, Misread> {
     if part.len() > decimals {
         return Err(Misread::Decimals);
     }
-    if whole.len() + decimals > MOST_DIGITS {
-        return Err(Misread::Size);
-    }
     let zeros = std::iter::repeat_n(b'0', decimals - part.len());
-    let size = whole.bytes().chain(part.bytes()).chain(zeros).fold(0, |sum, digit| sum * 10 + i64::from(digit - b'0'));
+    let mut digits = whole.bytes().chain(part.bytes()).chain(zeros);
+    let size = digits.try_fold(0i64, |sum, digit| sum.checked_mul(10)?.checked_add(i64::from(digit - b'0')));
+    let size = size.ok_or(Misread::Size)?;
     Ok(if negative { -size } else { size })
 }
 
@@ -81,7 +77,8 @@ mod tests {
             assert_eq!(read(word, decimals), Ok(value), "{word}");
         }
         assert_eq!(read("36000000000", 0), Ok(36_000_000_000));
-        assert_eq!(read("999999999999999999", 0), Ok(999_999_999_999_999_999));
+        assert_eq!(read("9223372036854775807", 0), Ok(i64::MAX));
+        assert_eq!(read("-92233720368.54775807", 8), Ok(-i64::MAX));
         assert_eq!(read("0.1234567", 7), Ok(1_234_567));
     }
 
@@ -96,8 +93,8 @@ mod tests {
         }
         assert_eq!(read("1.25", 1), Err(Misread::Decimals));
         assert_eq!(read("1.0", 0), Err(Misread::Decimals));
-        assert_eq!(read("123456789012", 7), Err(Misread::Size));
-        assert_eq!(read("1000000000000000000", 0), Err(Misread::Size));
+        assert_eq!(read("1234567890123", 7), Err(Misread::Size));
+        assert_eq!(read("9223372036854775808", 0), Err(Misread::Size));
     }
 
     #[test]

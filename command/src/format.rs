@@ -14,8 +14,9 @@ pub const FLAGS: &[Flag] = &[("--json", None), ("--csv", None)];
 
 macro_rules! format_help {
     () => {
-        "  --json            one JSON object, units in the names
-  --csv             CSV by RFC 4180 (lines end in CR LF), units in its head
+        "  --json            one JSON object, units in the names; null for what is none
+  --csv             CSV by RFC 4180 (lines end in CR LF), units in its head;
+                    empty for what is none
 "
     };
 }
@@ -61,9 +62,39 @@ pub fn shown_angle(units_e8: i64) -> String {
 
 /// Azimuth and elevation as people need them; an azimuth that is rounded up to a whole turn is 0.
 pub fn shown_place(place: Place) -> (String, String) {
-    let azimuth = shown_units(place.azimuth_e8) % TURN_SHOWN;
-    (decimal::written(azimuth, SHOWN_DECIMALS), shown_angle(place.elevation_e8))
+    let shown = |azimuth_e8| decimal::written(shown_units(azimuth_e8) % TURN_SHOWN, SHOWN_DECIMALS);
+    (place.azimuth_e8.map_or(NONE.to_string(), shown), shown_angle(place.elevation_e8))
 }
+
+// ---- what has no azimuth
+
+/// What people read where there is no azimuth; in JSON it is null, and in CSV it is empty.
+pub const NONE: &str = "none";
+
+/// An azimuth with all its decimals, where there is one.
+pub fn azimuth(place: Place) -> Option<String> {
+    place.azimuth_e8.map(angle)
+}
+
+/// Why a place has none: "the Sun stands straight overhead".
+pub fn why_no_azimuth(body: Body, place: Place) -> String {
+    let side = if place.elevation_e8 < 0 { "underfoot" } else { "overhead" };
+    format!("the {} stands straight {side}", body_name(body))
+}
+
+/// The lines of a table's heading that say so, each reason once; none of them where every place has an azimuth.
+pub fn no_azimuth_words(places: impl Iterator<Item = (Body, Place)>) -> String {
+    let mut lines: Vec<String> = Vec::new();
+    for (body, place) in places.filter(|(_, place)| place.azimuth_e8.is_none()) {
+        let line = format!("azimuth {NONE} where {}\n", why_no_azimuth(body, place));
+        if !lines.contains(&line) {
+            lines.push(line);
+        }
+    }
+    lines.concat()
+}
+
+// ---- other figures
 
 /// Per cent of the Sun's disk, with all that the library gives.
 pub fn percent(share_millionths: i64) -> String {
@@ -103,6 +134,15 @@ pub fn body_key(body: Body) -> &'static str {
 
 // ---- JSON
 
+/// A name and its word or its figure, null where there is none.
+pub fn json_member(name: &str, value: Option<String>, is_word: bool) -> String {
+    match value {
+        Some(word) if is_word => format!("\"{name}\": \"{word}\""),
+        Some(figure) => format!("\"{name}\": {figure}"),
+        None => format!("\"{name}\": null"),
+    }
+}
+
 /// The members that say where the observer stands.
 pub fn json_spot(spot: Spot) -> String {
     let degrees = |units_e7| decimal::written(units_e7, POINT_DECIMALS);
@@ -131,15 +171,18 @@ pub fn json_forecast() -> String {
 }
 
 pub fn json_place(place: Place) -> String {
-    format!("\"azimuth_degrees\": {}, \"elevation_degrees\": {}", angle(place.azimuth_e8), angle(place.elevation_e8))
+    format!("{}, \"elevation_degrees\": {}", json_azimuth(place), angle(place.elevation_e8))
+}
+
+pub fn json_azimuth(place: Place) -> String {
+    json_member("azimuth_degrees", azimuth(place), false)
 }
 
 /// The members that say when a body rises and sets, null where it does not.
 pub fn json_day(day: &Day) -> String {
-    let key = body_key(day.body);
-    let quoted = |word: Option<String>| word.map_or("null".to_string(), |word| format!("\"{word}\""));
-    let [rise, set, stays] = day_words(day).map(quoted);
-    format!("\"{key}_rise_time\": {rise}, \"{key}_set_time\": {set}, \"{key}_stays\": {stays}")
+    let names = ["rise_time", "set_time", "stays"].map(|name| format!("{}_{name}", body_key(day.body)));
+    let members = names.iter().zip(day_words(day)).map(|(name, word)| json_member(name, word, true));
+    members.collect::<Vec<String>>().join(", ")
 }
 
 // Rise, set, and what it does that has neither.
@@ -170,7 +213,7 @@ pub fn csv_scales(scales: Scales) -> String {
 }
 
 pub fn csv_place(place: Place) -> String {
-    format!("{},{}", angle(place.azimuth_e8), angle(place.elevation_e8))
+    format!("{},{}", azimuth(place).unwrap_or_default(), angle(place.elevation_e8))
 }
 
 /// Rise, set and what it does that has neither, empty where there is none.
@@ -201,10 +244,25 @@ mod tests {
 
     #[test]
     fn no_azimuth_is_shown_as_a_whole_turn() {
-        let place = Place { azimuth_e8: 35_999_999_999, elevation_e8: -4_999 };
+        let place = Place { azimuth_e8: Some(35_999_999_999), elevation_e8: -4_999 };
         assert_eq!(shown_place(place), ("0.0000".into(), "0.0000".into()));
-        let place = Place { azimuth_e8: 19_434_024_073, elevation_e8: -3_987_204_605 };
+        let place = Place { azimuth_e8: Some(19_434_024_073), elevation_e8: -3_987_204_605 };
         assert_eq!(shown_place(place), ("194.3402".into(), "-39.8720".into()));
+    }
+
+    #[test]
+    fn a_place_without_an_azimuth() {
+        let [over, under] = [8_999_999_993, -8_999_999_993].map(|elevation_e8| Place { azimuth_e8: None, elevation_e8 });
+        let north = Place { azimuth_e8: Some(0), ..over };
+        assert_eq!((shown_place(over), shown_place(under).0), (("none".into(), "90.0000".into()), "none".into()));
+        assert_eq!((csv_place(over), csv_place(north)), (",89.99999993".into(), "0.00000000,89.99999993".into()));
+        assert_eq!(json_place(under), "\"azimuth_degrees\": null, \"elevation_degrees\": -89.99999993");
+        let said = no_azimuth_words([north, over, over].map(|place| (Body::Sun, place)).into_iter().chain([(Body::Moon, under)]));
+        assert_eq!(
+            said,
+            "azimuth none where the Sun stands straight overhead\nazimuth none where the Moon stands straight underfoot\n"
+        );
+        assert_eq!(no_azimuth_words([(Body::Sun, north)].into_iter()), "");
     }
 
     #[test]

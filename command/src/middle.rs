@@ -1,7 +1,7 @@
 //! `raddlehue middle`: half way between two azimuths.
 
-use crate::failure::Failure;
-use crate::format::{self, angle, format_help, Format};
+use crate::failure::{quoted, Failure};
+use crate::format::{self, angle, format_help, Format, NONE};
 use crate::observer::number;
 use crate::sky;
 use crate::words::{Command, Words};
@@ -29,10 +29,18 @@ whole numbers in units of 1e-8 degree, from 0 to 35999999999 (359.9 degrees is
 
 const WOULD_BE: &str = "a whole number of 1e-8 degree, like 35990000000 for 359.9 degrees";
 
+// The word that the other commands print has a sentence of its own.
+fn azimuth(word: &str) -> Result<i64, Failure> {
+    if word == NONE {
+        let why = "what stands straight overhead or straight underfoot has no direction";
+        return Err(Failure::Usage(format!("the azimuth {} has no middle with another: {why}", quoted(word))));
+    }
+    number(word, "azimuth", 0, WOULD_BE)
+}
+
 fn run(words: &Words) -> Result<String, Failure> {
     let format = Format::read(words)?;
-    let a = number(words.positional(0), "azimuth", 0, WOULD_BE)?;
-    let b = number(words.positional(1), "azimuth", 0, WOULD_BE)?;
+    let (a, b) = (azimuth(words.positional(0))?, azimuth(words.positional(1))?);
     let middle = sky::middle(a, b)?;
     let degrees = angle(middle);
     Ok(match format {

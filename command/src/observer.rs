@@ -174,7 +174,7 @@ fn misread_words(word: &str, name: &str, decimals: u32, would_be: &str, misread:
         Misread::Form => "it is not digits with a point".to_string(),
         Misread::Decimals if decimals == 0 => "it is not whole, and the rest would be lost".to_string(),
         Misread::Decimals => format!("it has more than {decimals} decimals, and the rest would be lost"),
-        Misread::Size => "it has too many digits".to_string(),
+        Misread::Size => "it is too large".to_string(),
     };
     let reason = if word.is_empty() { "it is empty".to_string() } else { reason };
     Failure::Usage(format!("the {name} {} cannot be read: {reason}; write {would_be}", quoted(word)))

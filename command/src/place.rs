@@ -3,7 +3,7 @@
 use crate::decimal;
 use crate::delta_t::Scales;
 use crate::failure::{quoted, Failure};
-use crate::format::{self, angle, angle_of_double, format_help, Format};
+use crate::format::{self, angle, angle_of_double, format_help, Format, NONE};
 use crate::observer::{self, observer_help, scales_words, Observer};
 use crate::sky::{self, Body, Place, Shown, View, ANGLE_DECIMALS, LOWEST_REFRACTED_E8};
 use crate::time::{Moment, UTC};
@@ -102,12 +102,12 @@ fn text(answer: &Answer, observer: Observer) -> String {
     let moment = answer.view.moment;
     let utc = if moment.zone() == UTC { String::new() } else { format!(" ({})", moment.in_utc().written()) };
     let mut text = format!(
-        "{} at {}{utc}\n{}\n{}azimuth {} degrees, from north over east\n",
+        "{} at {}{utc}\n{}\n{}azimuth {}\n",
         format::body_name(answer.body),
         moment.written(),
         observer.words(),
         scales_words(answer.scales),
-        angle(answer.place.azimuth_e8)
+        azimuth_words(answer)
     );
     match &answer.shown {
         None => {
@@ -126,6 +126,13 @@ fn text(answer: &Answer, observer: Observer) -> String {
         }
     }
     text
+}
+
+fn azimuth_words(answer: &Answer) -> String {
+    match format::azimuth(answer.place) {
+        Some(azimuth) => format!("{azimuth} degrees, from north over east"),
+        None => format!("{NONE}: {}", format::why_no_azimuth(answer.body, answer.place)),
+    }
 }
 
 /// Why an air that is given raises nothing, where it does not.
@@ -149,8 +156,8 @@ fn json(answer: &Answer) -> String {
             format!("\"pressure_mbar\": {}, \"temperature_celsius\": {}", air.pressure.0, air.temperature.0),
             "\"refraction_included\": true".to_string(),
             format!(
-                "\"azimuth_degrees\": {}, \"elevation_degrees\": {}, \"refraction_degrees\": {}",
-                angle(answer.place.azimuth_e8),
+                "{}, \"elevation_degrees\": {}, \"refraction_degrees\": {}",
+                format::json_azimuth(answer.place),
                 angle_of_double(shown.elevation_degrees),
                 angle_of_double(shown.refraction_degrees)
             ),
@@ -168,7 +175,7 @@ fn csv(answer: &Answer) -> String {
         "{},{},{},{elevation},{refraction},{},{}",
         format::body_key(answer.body),
         answer.view.moment.written(),
-        angle(answer.place.azimuth_e8),
+        format::azimuth(answer.place).unwrap_or_default(),
         answer.shown.is_some(),
         format::csv_scales(answer.scales)
     );

@@ -245,14 +245,16 @@ fn lines(svg: &str) -> Vec<Vec<(f64, f64)>> {
 #[test]
 fn no_path_jumps() {
     let skies = [
-        ("2003-10-17", "39.742476", "-105.1786"), // the north
-        ("2026-11-15", "-45.5", "170.5"),         // the south
-        ("2026-05-28", "21.4225", "39.8262"),     // the Sun a tenth of a degree from the zenith
-        ("2026-03-20", "0", "0"),                 // the equator at an equinox
-        ("2026-06-21", "9.5", "-79.5"),           // the Sun goes through the north, where the sheet has its edge
-        ("2026-06-21", "69.6492", "18.9553"),     // a polar day
-        ("2026-12-21", "90", "0"),                // a polar night
-        ("2100-12-31", "-90", "180"),             // the last day
+        ("2003-10-17", "39.742476", "-105.1786"),     // the north
+        ("2026-11-15", "-45.5", "170.5"),             // the south
+        ("2026-05-28", "21.4225", "39.8262"),         // the Sun a tenth of a degree from the zenith
+        ("2027-05-28", "21.5390192", "-158.1709847"), // the Sun goes through the zenith itself
+        ("2026-11-15", "-21.5680134", "40.3360749"),  // the Moon does
+        ("2026-03-20", "0", "0"),                     // the equator at an equinox
+        ("2026-06-21", "9.5", "-79.5"),               // the Sun goes through the north, where the sheet has its edge
+        ("2026-06-21", "69.6492", "18.9553"),         // a polar day
+        ("2026-12-21", "90", "0"),                    // a polar night
+        ("2100-12-31", "-90", "180"),                 // the last day
     ];
     for (date, latitude, longitude) in skies {
         let svg = answer(&["picture", date, "--lat", latitude, "--lon", longitude], "");

@@ -165,12 +165,16 @@ fn no_words_of_a_picture_touch() {
     let graze = ["--lat", "8.1800842N", "--lon", "100E"];
     let skims = [&["--lat", "74.3N"], &TAIMYR[2..]].concat();
     let short_total = ["--lon", "-123.4817", "--lat", "-15.7883", "--delta-t", "64.8"];
+    let overhead = ["--lon", "156.1626339", "--lat", "20.2748935", "--delta-t", "66.5"];
+    let underfoot = ["--lon", "-23.554042", "--lat", "-20.2750398", "--delta-t", "66.4"];
     for (date, here) in [
         ("2026-08-12", &BURGOS[..]),
         ("2026-08-12", &TAIMYR),
         ("2026-08-12", &skims),
         ("2026-08-12", &graze),
         ("2005-04-08", &short_total),
+        ("2009-07-22", &overhead),
+        ("2009-07-22", &underfoot),
     ] {
         let svg = eclipse(date, &[here, &["--picture"]].concat());
         let boxes = boxes(&svg);

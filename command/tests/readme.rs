@@ -15,7 +15,7 @@ fn printed(line: &str) -> String {
 fn every_example_prints_what_is_shown() {
     let page = include_str!("../README.md");
     let examples: Vec<&str> = page.split("\n    $ ").skip(1).collect();
-    assert_eq!(examples.len(), 11);
+    assert_eq!(examples.len(), 12);
     for example in examples {
         let (line, rest) = example.split_once('\n').unwrap();
         let lines = rest.lines().take_while(|line| line.is_empty() || line.starts_with("    "));

@@ -180,7 +180,10 @@ fn other_numbers() {
 
 #[test]
 fn azimuths() {
-    for word in ["", "5.5", "north", "1e10", "0x10", "inf", "nan", "010", "9999999999999999999", "359.9", "1 2"] {
+    for word in [
+        "", "5.5", "north", "none", "null", "1e10", "0x10", "inf", "nan", "010", "9999999999999999999", "359.9", "1 2",
+        "9223372036854775808", "92233720368.54775807",
+    ] {
         refused(&["middle", word, "0"], "", 2, word);
         refused(&["middle", "0", word], "", 2, word);
     }
@@ -188,6 +191,12 @@ fn azimuths() {
     refused(&["middle", "0", "-1"], "", 1, "-1");
     refused(&["middle", "0", "18000000000"], "", 1, "18000000000");
     refused(&["middle", "0", "1", "2"], "", 2, "2");
+    // The library's number for no direction is not reduced.
+    for words in [["middle", "9223372036854775807", "0"], ["middle", "0", "9223372036854775807"]] {
+        refused(&words, "", 1, "9223372036854775807");
+        let output = run(&words, b"");
+        assert!(String::from_utf8(output.stderr).unwrap().contains("refused 15: "));
+    }
 }
 
 // ---- flags and commands

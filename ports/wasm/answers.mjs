@@ -3,7 +3,7 @@
 // Each request is made twice: by the function as it is, with poisoned memory, which gives the line; and by raddlehue.mjs, which has to give the same words, or nothing
 // where the call is refused. A difference ends the run.
 import { readFileSync } from 'node:fs';
-import { load } from './raddlehue.mjs';
+import { NO_DIRECTION_E8, load } from './raddlehue.mjs';
 
 const sky = await load(readFileSync(process.argv[2]));
 const raw = sky.raw;
@@ -50,11 +50,20 @@ const airOf = (given) => ({ kind: code(given[0]), pressure_mbar: double(given[1]
 // The words of an object of raddlehue.mjs: the refusal and the values in the order of their names, doubles as bits.
 const shown = (answer) => Object.values(answer).map((value, i) => (i === 0 ? value.toString(16) : hex(typeof value === 'number' ? bits(value) : value)));
 
-// What each export is given, the count of words it writes, and the same by raddlehue.mjs.
+// A place's, as the memory has them: whether there is an azimuth in the lower half of a poisoned word, and 0 for one that is missing.
+function shownPlace(answer, azimuth) {
+  if (answer.refusal !== 0) return shown(answer);
+  const flag = azimuth in answer ? 1n : 0n;
+  const { refusal, [azimuth]: number = 0, ...rest } = answer;
+  return shown({ refusal, flag: (POISON >> 32n << 32n) + flag, number, ...rest });
+}
+
+// What each export is given, the count of words that are shown, the same by raddlehue.mjs, and the name of an azimuth that may be missing there.
 function request(given) {
   put(start, given.slice(0, 9).map(big));
   put(point, given.slice(10, 13).map(big));
-  return [start, code(given[9]), point, code(given[13]), double(given[14]), double(given[15]), lend()];
+  const flag = lend();
+  return [start, code(given[9]), point, code(given[13]), double(given[14]), double(given[15]), flag, flag + 8];
 }
 function startAndPoint(given) {
   put(start, given.slice(0, 9).map(big));
@@ -63,8 +72,8 @@ function startAndPoint(given) {
 }
 const objects = (given) => [named(START, given.slice(0, 9).map(big)), code(given[9]), named(POINT, given.slice(10, 13).map(big))];
 const CALLS = {
-  place: [2, request, (g) => sky.place(...objects(g), airOf(g.slice(13)))],
-  shown_place: [3, request, (g) => sky.shown_place(...objects(g), airOf(g.slice(13)))],
+  place: [3, request, (g) => sky.place(...objects(g), airOf(g.slice(13))), 'azimuth_e8'],
+  shown_place: [4, request, (g) => sky.shown_place(...objects(g), airOf(g.slice(13))), 'azimuth_degrees'],
   eclipse: [4, startAndPoint, (g) => sky.eclipse(named(START, g.slice(0, 9).map(big)), named(POINT, g.slice(9).map(big)))],
   covered_share: [1, (g) => [...g.map(big), lend()], (g) => sky.covered_share(...g.map(big))],
   instant: [2, (g) => (put(start, g.map(big)), [start, lend()]), (g) => sky.instant(named(START, g.map(big)))],
@@ -79,7 +88,7 @@ const CALLS = {
 const LEAVES = {
   sine: (g) => sky.sine(big(g[0])),
   cosine: (g) => sky.cosine(big(g[0])),
-  arctangent: (g) => sky.arctangent(big(g[0]), big(g[1])),
+  arctangent: (g) => sky.arctangent(big(g[0]), big(g[1])) ?? NO_DIRECTION_E8,
   root: (g) => sky.root(BigInt(`0x${g[0]}`)),
 };
 
@@ -153,9 +162,9 @@ for (const line of readFileSync(0, 'utf8').split('\n').slice(0, -1)) {
   } else if (name === 'day') {
     said = day(given, line);
   } else {
-    const [count, arguments_, ours] = CALLS[name];
+    const [count, arguments_, ours, azimuth] = CALLS[name];
     said = words(raw[`raddlehue_${name}`](...arguments_(given)), count);
-    const object = shown(ours(given));
+    const object = azimuth ? shownPlace(ours(given), azimuth) : shown(ours(given));
     const expected = said[0] === '0' ? said : said.slice(0, 1);
     if (object.join(' ') !== expected.join(' ')) fail(line, `raddlehue.mjs has ${object.join(' ')}`);
   }

@@ -1,7 +1,8 @@
-// node ports/wasm/calls.mjs RADDLEHUE.WASM : raddlehue.mjs as a page uses it. Its own example, days by the minute against single places, eclipses, and what it has to throw at.
+// node ports/wasm/calls.mjs RADDLEHUE.WASM : raddlehue.mjs as a page uses it. Its own example, days by the minute against single places, a body without an azimuth, eclipses, and what it
+// has to throw at.
 import assert from 'node:assert/strict';
 import { readFileSync } from 'node:fs';
-import { AIR_NONE, AIR_STANDARD, MOON, SUN, load, measured } from './raddlehue.mjs';
+import { AIR_NONE, AIR_STANDARD, MOON, NO_DIRECTION_E8, SUN, load, measured } from './raddlehue.mjs';
 
 const bytes = readFileSync(process.argv[2]);
 const sky = await load(bytes);
@@ -40,6 +41,16 @@ for (let minute = 0; minute < week.length; minute += 97) {
 const eve = { ...start, year: 2100, month: 12, day: 31, hour: 23, minute: 59, second: 59 };
 assert.deepEqual(sky.batch(eve, SUN, point, [0, 9, 10]), { refusal: 13, index: 2 });
 assert.deepEqual(sky.batch(start, SUN, point, []).azimuths_e8, new BigInt64Array(0));
+
+// the Sun straight over Lahaina on Maui, which has no azimuth: a tenth of a second before it is in the east, and a tenth after in the west
+const noon = { ...start, year: 2005, month: 7, day: 18, hour: 22, minute: 32, second: 59, delta_t_tenths: 647 };
+const lahaina = { longitude_e7: -1566828813, latitude_e7: 208783487, height_metres: 0 };
+assert.deepEqual(sky.place(noon, SUN, lahaina), { refusal: 0, elevation_e8: 8999999993n });
+assert.deepEqual(Object.keys(sky.shown_place(noon, SUN, lahaina, AIR_STANDARD)), ['refusal', 'elevation_degrees', 'refraction_degrees']);
+const [east, overhead, west] = sky.batch({ ...noon, second: 58, fraction_tenths: 9 }, SUN, lahaina, [0, 1, 2]).azimuths_e8;
+assert.deepEqual([east, overhead, west], [8999156196n, NO_DIRECTION_E8, 26995783452n]);
+assert.deepEqual(sky.middle(east, overhead), { refusal: 15 });
+assert.deepEqual([sky.arctangent(0, 0), sky.arctangent(0, 1)], [undefined, 0n]);
 
 // a day against its places, a rise and a set, a polar day that has neither name, and a refusal
 const date = { year: 2003, month: 10, day: 17, ut1_tenths: 0, delta_t_tenths: 670 };

@@ -7,14 +7,16 @@
  *     sky.place(start, SUN, point)                                           // { refusal: 0, azimuth_e8: 19434024073n, elevation_e8: 3987204605n }
  *
  * A call gives an object: `refusal` is 0 and the answer's names stand beside it, or it is the number of the refusal, and (but for the index of a batch) nothing else.
- * Names and numbers are those of include/raddlehue.h and docs/REFUSALS.md; names say their unit (_e7 and _e8 are 1e-7 and 1e-8 degree, _tenths are tenths of a second,
- * _millionths are of the Sun's disk). Whole numbers may be given as Number or BigInt and come back as BigInt, exact; minutes, degrees, mbar and degrees Celsius are
- * Numbers. What is no whole number, or none of 64 bits, is a TypeError or a RangeError; every other number may be given, and what cannot be answered is refused.
+ * What an answer does not have is missing, neither 0 nor null: the azimuth of a body straight overhead or straight underfoot, a rise or a set that does not come. Names
+ * (an azimuth without C's if_any) and numbers are those of include/raddlehue.h and docs/REFUSALS.md; names say their unit (_e7 and _e8 are 1e-7 and 1e-8 degree, _tenths
+ * are tenths of a second, _millionths are of the Sun's disk). Whole numbers may be given as Number or BigInt and come back as BigInt, exact; minutes, degrees, mbar and
+ * degrees Celsius are Numbers. What is no whole number, or none of 64 bits, is a TypeError or a RangeError; every other number may be given, and what cannot be answered
+ * is refused.
  *
- *     place(start, body, point[, air])         azimuth_e8, elevation_e8
- *     shown_place(start, body, point[, air])   azimuth_degrees, elevation_degrees, refraction_degrees
- *     batch(start, body, point, offsets)       azimuths_e8, elevations_e8: a BigInt64Array each, an entry for each offset (Uint32Array or list, in tenths);
- *                                              where the refusal is 13, index: the first offset that is too late
+ *     place(start, body, point[, air])         azimuth_e8, which may be missing, elevation_e8
+ *     shown_place(start, body, point[, air])   azimuth_degrees, which may be missing, elevation_degrees, refraction_degrees
+ *     batch(start, body, point, offsets)       azimuths_e8, elevations_e8: a BigInt64Array each, an entry for each offset (Uint32Array or list, in tenths); where there is no
+ *                                              azimuth its entry is NO_DIRECTION_E8; where the refusal is 13, index: the first offset that is too late
  *     day(date, body, point)                   elevations_e8: a BigInt64Array, the elevation at each of the date's 1,440 minutes of UTC; rise_minute, set_minute: 0 to 1439,
  *                                              the first at which the body is at or above -0.8333 degree and was not the minute before, and the reverse; where there
  *                                              is none, as on a polar day, the name is missing. A date is { year, month, day, ut1_tenths, delta_t_tenths }
@@ -31,13 +33,16 @@
  *     nutation(tt_tenths)                      longitude_e8, obliquity_e8, true_obliquity_e8
  *     mean_sidereal(ut_tenths)                 sidereal_e8
  *     sine(angle_e8), cosine(angle_e8)         a BigInt, times 1e9; nothing is refused by these four
- *     arctangent(y, x)                         a BigInt, 1e-8 degree
+ *     arctangent(y, x)                         a BigInt, 1e-8 degree; undefined where both are zero
  *     root(square)                             a BigInt; the square is 0 up to 2^64 - 1
  *
  * Without an air a place is asked for without refraction. A loaded module keeps no state between calls; one that is shared by workers is loaded in each of them.
  */
 export const SUN = 0;
 export const MOON = 1;
+
+/* What stands in a batch's azimuths where there is none; middle refuses it. */
+export const NO_DIRECTION_E8 = 2n ** 63n - 1n;
 
 /* The air of a request; measured(pressure_mbar, temperature_celsius) makes the third kind. */
 export const AIR_NONE = Object.freeze({ kind: 0, pressure_mbar: 0, temperature_celsius: 0 });
@@ -80,7 +85,7 @@ class Raddlehue {
 
   constructor(instance) {
     this.#raw = instance.exports;
-    // what is handed to a call lies above all that the module has: the start, the point and the answer, then a batch's lists or a day's curve
+    // what is handed to a call lies above all that the module has: the start, the point, a place's flag and the answer, then a batch's lists or a day's curve
     this.#base = this.#raw.__heap_base.value + 15 & ~15;
     this.#memory(256);
   }
@@ -113,6 +118,10 @@ class Raddlehue {
     return this.#put(this.#base + 96, POINT, point);
   }
 
+  get #hasAzimuth() {
+    return this.#base + 120;
+  }
+
   get #answer() {
     return this.#base + 128;
   }
@@ -138,16 +147,23 @@ class Raddlehue {
   #request(start, body, point, air) {
     return [
       this.#start(start), code(body, 'body'), this.#point(point),
-      code(air.kind, 'air'), Number(air.pressure_mbar), Number(air.temperature_celsius), this.#answer];
+      code(air.kind, 'air'), Number(air.pressure_mbar), Number(air.temperature_celsius), this.#hasAzimuth, this.#answer];
+  }
+
+  /* Takes the name of the azimuth out where there is none: 0 would say north, and so would null, which counts as 0. */
+  #ifAny(answer, azimuth) {
+    if (answer.refusal === 0 && this.#memory(256).getUint32(this.#hasAzimuth, true) === 0) delete answer[azimuth];
+    return answer;
   }
 
   place(start, body, point, air = AIR_NONE) {
-    return this.#units(this.#raw.raddlehue_place(...this.#request(start, body, point, air)) >>> 0, 'azimuth_e8', 'elevation_e8');
+    const refusal = this.#raw.raddlehue_place(...this.#request(start, body, point, air)) >>> 0;
+    return this.#ifAny(this.#units(refusal, 'azimuth_e8', 'elevation_e8'), 'azimuth_e8');
   }
 
   shown_place(start, body, point, air = AIR_NONE) {
     const refusal = this.#raw.raddlehue_shown_place(...this.#request(start, body, point, air)) >>> 0;
-    return this.#doubles(refusal, 'azimuth_degrees', 'elevation_degrees', 'refraction_degrees');
+    return this.#ifAny(this.#doubles(refusal, 'azimuth_degrees', 'elevation_degrees', 'refraction_degrees'), 'azimuth_degrees');
   }
 
   batch(start, body, point, offsets) {
@@ -244,7 +260,8 @@ class Raddlehue {
   }
 
   arctangent(y, x) {
-    return this.#raw.raddlehue_arctangent(whole(y, 'y'), whole(x, 'x'));
+    const angle = this.#raw.raddlehue_arctangent(whole(y, 'y'), whole(x, 'x'));
+    return angle === NO_DIRECTION_E8 ? undefined : angle;
   }
 
   root(square) {

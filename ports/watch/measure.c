@@ -20,7 +20,7 @@ static int64_t request[REQUESTS][12];
 static uint32_t offsets[SAMPLES];
 static int64_t azimuths[SAMPLES], elevations[SAMPLES], curve[MINUTES];
 static const double pressure = 820.0, temperature = 11.0;
-static uint32_t body;
+static uint32_t body, has_azimuth;
 static volatile uint32_t kept;
 
 static const raddlehue_start_t *start;
@@ -36,8 +36,10 @@ static int64_t azimuth, share;
 static double degrees;
 
 static void nothing(void) {}
-static void a_place(void) { kept = raddlehue_place(start, body, point, RADDLEHUE_AIR_MEASURED, pressure, temperature, &place); }
-static void a_shown_place(void) { kept = raddlehue_shown_place(start, body, point, RADDLEHUE_AIR_MEASURED, pressure, temperature, &shown); }
+static void a_place(void) { kept = raddlehue_place(start, body, point, RADDLEHUE_AIR_MEASURED, pressure, temperature, &has_azimuth, &place); }
+static void a_shown_place(void) {
+    kept = raddlehue_shown_place(start, body, point, RADDLEHUE_AIR_MEASURED, pressure, temperature, &has_azimuth, &shown);
+}
 static void a_batch(void) { kept = raddlehue_batch(start, body, point, offsets, SAMPLES, azimuths, SAMPLES, elevations, SAMPLES, &told); }
 static void a_day(void) { kept = raddlehue_day(&date, body, point, curve, &rise_set); }
 static void an_eclipse(void) { kept = raddlehue_eclipse(start, point, eclipse); }

@@ -41,8 +41,18 @@ fn write<T>(found: Result<T, u8>, lent: &mut T) -> u32 {
     }
 }
 
+// A place: its numbers, and whether the first of them is an azimuth.
+fn write_place<T>(found: Result<(bool, T), u8>, has_azimuth: &mut u32, lent: &mut T) -> u32 {
+    if let Ok((has, _)) = found {
+        *has_azimuth = u32::from(has);
+    }
+    write(found.map(|(_, numbers)| numbers), lent)
+}
+
 #[no_mangle]
-pub extern "C" fn raddlehue_place(start: &[i64; 9], body: u32, point: &[i64; 3], air: u32, pressure: f64, temperature: f64, lent: &mut [i64; 2]) -> u32 {
+pub extern "C" fn raddlehue_place(
+    start: &[i64; 9], body: u32, point: &[i64; 3], air: u32, pressure: f64, temperature: f64, has_azimuth: &mut u32, lent: &mut [i64; 2],
+) -> u32 {
     if body > 1 {
         return 101;
     }
@@ -50,12 +60,13 @@ pub extern "C" fn raddlehue_place(start: &[i64; 9], body: u32, point: &[i64; 3],
         return 102;
     }
     let found = place(start_of(start), body_of(body), point_of(point), air_of(air, pressure, temperature));
-    write(found.map(|place| [place.azimuth, place.elevation]), lent)
+    let numbers = found.map(|place| (place.azimuth.is_some(), [place.azimuth.unwrap_or(0), place.elevation]));
+    write_place(numbers, has_azimuth, lent)
 }
 
 #[no_mangle]
 pub extern "C" fn raddlehue_shown_place(
-    start: &[i64; 9], body: u32, point: &[i64; 3], air: u32, pressure: f64, temperature: f64, lent: &mut [f64; 3],
+    start: &[i64; 9], body: u32, point: &[i64; 3], air: u32, pressure: f64, temperature: f64, has_azimuth: &mut u32, lent: &mut [f64; 3],
 ) -> u32 {
     if body > 1 {
         return 101;
@@ -64,7 +75,8 @@ pub extern "C" fn raddlehue_shown_place(
         return 102;
     }
     let found = shown_place(start_of(start), body_of(body), point_of(point), air_of(air, pressure, temperature));
-    write(found.map(|shown| [shown.azimuth, shown.elevation, shown.refraction]), lent)
+    let numbers = found.map(|shown| (shown.azimuth.is_some(), [shown.azimuth.unwrap_or(0.0), shown.elevation, shown.refraction]));
+    write_place(numbers, has_azimuth, lent)
 }
 
 // A list of nothing may come with a null pointer. The module's text is retargeted from x86-64, so lengths have 64 bits here.
@@ -201,7 +213,7 @@ pub extern "C" fn raddlehue_cosine(angle: i64) -> i64 {
 
 #[no_mangle]
 pub extern "C" fn raddlehue_arctangent(y: i64, x: i64) -> i64 {
-    arctangent(y, x)
+    arctangent(y, x).unwrap_or(NO_DIRECTION)
 }
 
 #[no_mangle]

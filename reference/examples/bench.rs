@@ -46,11 +46,11 @@ fn main() {
     measure_leaf("sine", sine);
     measure_leaf("cosine", cosine);
     measure_leaf("arctangent", |x| arctangent(x % 1_000_000_007, (x + 5) % 998_244_353));
-    measure_leaf("root", |x| root(x as u64) as i64);
+    measure_leaf("root", |x| root(x as u64));
 }
 
 /// Prints the best time of a leaf over many numbers, each asked alone.
-fn measure_leaf(name: &str, leaf: impl Fn(i64) -> i64) {
+fn measure_leaf<T>(name: &str, leaf: impl Fn(i64) -> T) {
     const LEAVES: u32 = 20_000;
     measure(name, LEAVES, || {
         for i in 0..i64::from(LEAVES) {

@@ -5,7 +5,7 @@ use std::ops::RangeInclusive;
 
 use crate::instant::Instant;
 use crate::moon::{moon_at, Moon};
-use crate::numbers::{arctangent, floor_div, root, scaled, sine, HALF_TURN, ONE, TURN};
+use crate::numbers::{floor_div, root, scaled, sine, slope, HALF_TURN, ONE, TURN};
 use crate::place::{Observer, Sky, Vector};
 use crate::request::{check_point, Point, Start};
 use crate::sun::{sun_at, Sun};
@@ -59,7 +59,7 @@ fn separation(to_sun: &Vector, to_moon: &Vector) -> i64 {
 
 /// The arctangent, or a whole turn less it where that is smaller; 0 for the zero vector.
 fn short_arctangent(y: i64, x: i64) -> i64 {
-    let angle = arctangent(y, x);
+    let angle = slope(y, x);
     angle.min(TURN - angle)
 }
 

@@ -10,7 +10,7 @@
 //! * sines and cosines, and vectors made of them: times 10⁹;
 //! * time: tenths of a second; UT and TT count from 2000-01-01 12:00;
 //! * a point's longitude and latitude: 10⁻⁷ degree, longitude east positive; its height: metres;
-//! * azimuth: from north over east.
+//! * azimuth: from north over east; a body straight overhead or underfoot has none.
 //!
 //! Every division is a floor, also below zero.
 
@@ -31,7 +31,7 @@ pub mod sidereal;
 pub mod sun;
 pub mod tables;
 
-pub use batch::batch;
+pub use batch::{batch, NO_DIRECTION};
 pub use calendar::day_count;
 pub use day::{day, Date, RiseSet};
 pub use eclipse::{covered_share, eclipse, Eclipse};

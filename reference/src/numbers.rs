@@ -109,18 +109,21 @@ fn quadrant_sine(angle: u64) -> i64 {
     ((SINE[k] as u64 * rest_cosine + SINE[360 - k] as u64 * rest_sine) / ONE as u64) as i64
 }
 
-/// The angle of the vector (x, y), reduced: 0 along x, a quarter turn along y. 0 for the zero vector.
-pub fn arctangent(y: i64, x: i64) -> i64 {
+/// The angle of the vector (x, y), reduced: 0 along x, a quarter turn along y. The zero vector has no direction
+/// (document 02, Item 5).
+pub fn arctangent(y: i64, x: i64) -> Option<i64> {
     /// Up to here the scaled pair and its growth (below 2.4 times) stay inside 64 bits.
     const NARROW: u64 = 1 << 50;
     if y == 0 && x == 0 {
-        return 0;
+        return None;
     }
-    if y.unsigned_abs() <= NARROW && x.unsigned_abs() <= NARROW {
-        reduce(narrow_arctangent(y, x))
-    } else {
-        reduce(wide_arctangent(y.into(), x.into()))
-    }
+    let narrow = y.unsigned_abs() <= NARROW && x.unsigned_abs() <= NARROW;
+    Some(reduce(if narrow { narrow_arctangent(y, x) } else { wide_arctangent(y.into(), x.into()) }))
+}
+
+/// The arctangent, and 0 for the zero vector: the rule of the elevation and of the eclipse, which is not the azimuth's.
+pub fn slope(y: i64, x: i64) -> i64 {
+    arctangent(y, x).unwrap_or(0)
 }
 
 /// The turning of (x, y) onto the axis in 30 steps, in a given width; signs by mask, as in `negate_if`.
@@ -224,9 +227,11 @@ mod tests {
         for y in ends {
             assert!(sine(y).abs() <= ONE + 1 && cosine(y).abs() <= ONE + 1);
             for x in ends {
-                assert!((0..TURN).contains(&arctangent(y, x)));
+                assert_eq!(arctangent(y, x).is_none(), (y, x) == (0, 0));
+                assert!((0..TURN).contains(&slope(y, x)));
             }
         }
+        assert_eq!(slope(0, 0), 0);
         assert_eq!(root(u64::MAX), u64::from(u32::MAX));
     }
 }

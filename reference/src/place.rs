@@ -2,7 +2,7 @@
 
 use crate::instant::{Instant, Time};
 use crate::moon::{moon_at, Moon};
-use crate::numbers::{arctangent, floor_div, root, scaled, sine_cosine, HALF_TURN, ONE, QUARTER_TURN, TURN};
+use crate::numbers::{arctangent, floor_div, root, scaled, sine_cosine, slope, HALF_TURN, ONE, QUARTER_TURN, TURN};
 use crate::nutation::nutation_at;
 use crate::refraction::refraction;
 use crate::request::{check_air, check_point, Air, Body, Point, Start};
@@ -15,8 +15,8 @@ const EARTH_RADIUS: i64 = 6_378_140;
 /// A body's place in the sky, without refraction.
 #[derive(Clone, Copy, Debug, PartialEq, Eq)]
 pub struct Place {
-    /// 10⁻⁸ degree from north over east, reduced.
-    pub azimuth: i64,
+    /// 10⁻⁸ degree from north over east, reduced; absent straight overhead and underfoot.
+    pub azimuth: Option<i64>,
     /// 10⁻⁸ degree, within ±90 degrees.
     pub elevation: i64,
 }
@@ -24,8 +24,8 @@ pub struct Place {
 /// A body's place as shown, in degrees.
 #[derive(Clone, Copy, Debug, PartialEq)]
 pub struct Shown {
-    /// From north over east.
-    pub azimuth: f64,
+    /// From north over east; absent straight overhead and underfoot, where its double is 0.
+    pub azimuth: Option<f64>,
     /// With refraction.
     pub elevation: f64,
     pub refraction: f64,
@@ -43,7 +43,7 @@ pub fn place(start: Start, body: Body, point: Point, air: Air) -> Result<Place, 
 pub fn shown_place(start: Start, body: Body, point: Point, air: Air) -> Result<Shown, u8> {
     let Place { azimuth, elevation } = place(start, body, point, air)?;
     let refraction = refraction(elevation, air);
-    Ok(Shown { azimuth: degrees(azimuth), elevation: degrees(elevation) + refraction, refraction })
+    Ok(Shown { azimuth: azimuth.map(degrees), elevation: degrees(elevation) + refraction, refraction })
 }
 
 fn degrees(angle: i64) -> f64 {
@@ -133,7 +133,8 @@ impl Observer {
     /// The observer at an accepted point.
     pub(crate) fn new(point: &Point) -> Self {
         let (sin, cos) = sine_cosine(10 * point.latitude);
-        let (w_sin, w_cos) = sine_cosine(arctangent(flattened(sin), cos));
+        let w = arctangent(flattened(sin), cos).expect("where a sine is near 0, the cosine is near 1");
+        let (w_sin, w_cos) = sine_cosine(w);
         Self {
             longitude: 10 * point.longitude,
             latitude_sine: sin,
@@ -171,7 +172,8 @@ impl Observer {
         let up = scaled(x, self.latitude_cosine) + scaled(z, self.latitude_sine);
         let north = scaled(z, self.latitude_cosine) - scaled(x, self.latitude_sine);
         let level = root((north * north) as u64 + (east * east) as u64);
-        Place { azimuth: arctangent(east, north), elevation: signed_elevation(arctangent(up, level as i64)) }
+        let elevation = signed_elevation(slope(up, level as i64));
+        Place { azimuth: arctangent(east, north), elevation }
     }
 }
 
@@ -193,11 +195,33 @@ mod tests {
     /// No real place has been seen to reach the bounds; (1, 0) and (-1, 0) do, by the arctangent's own error.
     #[test]
     fn elevations_stay_within_a_quarter_turn() {
-        let of = |up, level| signed_elevation(arctangent(up, level));
+        let of = |up, level| signed_elevation(slope(up, level));
         assert_eq!([of(1, 0), of(-1, 0)], [QUARTER_TURN, -QUARTER_TURN]);
         assert_eq!([of(1, ONE), of(-1, ONE), of(0, 0)], [7, -7, 0]);
         let angles = [0, QUARTER_TURN, HALF_TURN - 1, HALF_TURN, 3 * QUARTER_TURN, TURN - 1];
         let expected = [0, QUARTER_TURN, QUARTER_TURN, -QUARTER_TURN, -QUARTER_TURN, -1];
         assert_eq!(angles.map(signed_elevation), expected);
+    }
+
+    /// Whatever length the parallax leaves a direction, the arctangent's error is the same, and no bound is reached.
+    #[test]
+    fn straight_overhead_is_seven_units_short() {
+        for up in (975_000_000..=1_025_000_000).step_by(997) {
+            let [overhead, underfoot] = [up, -up].map(|up| signed_elevation(slope(up, 0)));
+            assert_eq!([overhead, underfoot], [QUARTER_TURN - 7, 7 - QUARTER_TURN], "{up}");
+        }
+    }
+
+    /// A sine of latitude is near 0 by the equator only, and a cosine by the poles only, so that w has a direction.
+    #[test]
+    fn every_latitude_has_an_observer() {
+        for latitude in (-900_000_000..=900_000_000).step_by(12_345) {
+            Observer::new(&Point { longitude: 0, latitude, height: 0 });
+        }
+        for edge in [-900_000_000, 0, 900_000_000] {
+            for latitude in (edge - 10_000).max(-900_000_000)..=(edge + 10_000).min(900_000_000) {
+                Observer::new(&Point { longitude: 0, latitude, height: 0 });
+            }
+        }
     }
 }

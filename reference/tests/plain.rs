@@ -10,7 +10,9 @@ use raddlehue_reference::moon::arguments;
 use raddlehue_reference::tables::{ARCTANGENT, SINE};
 use raddlehue_reference::*;
 
+mod lines;
 mod random;
+use lines::{read, start_and_point};
 use random::Random;
 
 const TURN: i128 = 36_000_000_000;
@@ -44,9 +46,9 @@ fn plain_cosine(angle: i128) -> i128 {
     plain_sine(angle + TURN / 4)
 }
 
-fn plain_arctangent(y: i128, x: i128) -> i128 {
+fn plain_arctangent(y: i128, x: i128) -> Option<i128> {
     if (y, x) == (0, 0) {
-        return 0;
+        return None;
     }
     let (mut y, mut x, mut angle) = if x < 0 { (-1024 * y, -1024 * x, TURN / 2) } else { (1024 * y, 1024 * x, 0) };
     for (k, &t) in ARCTANGENT.iter().enumerate() {
@@ -57,7 +59,12 @@ fn plain_arctangent(y: i128, x: i128) -> i128 {
             _ => {}
         }
     }
-    angle.rem_euclid(TURN)
+    Some(angle.rem_euclid(TURN))
+}
+
+/// The arctangent where two zeros make 0.
+fn plain_slope(y: i128, x: i128) -> i128 {
+    plain_arctangent(y, x).unwrap_or(0)
 }
 
 /// The rows of a table: the first cell as it stands, and all cells that are whole numbers.
@@ -199,13 +206,13 @@ impl Plain {
         let (cos_h, sin_h) = (plain_cosine(theta), plain_sine(theta));
         let (a, b) = (times(x, cos_h) + times(y, sin_h), times(y, cos_h) - times(x, sin_h));
         let (cos_p, sin_p, height) = (plain_cosine(phi(point)), plain_sine(phi(point)), i128::from(point.height));
-        let w = plain_arctangent(floor(99_664_719 * sin_p, 100_000_000), cos_p);
+        let w = plain_arctangent(floor(99_664_719 * sin_p, 100_000_000), cos_p).unwrap();
         let f = plain_cosine(w) + floor(height * cos_p, 6_378_140);
         let g = floor(99_664_719 * plain_sine(w), 100_000_000) + floor(height * sin_p, 6_378_140);
         ([a - times(p, f), b, z - times(p, g)], p, distance)
     }
 
-    fn place(&self, body: Body, instant: &Instant, point: &Point) -> [i128; 2] {
+    fn place(&self, body: Body, instant: &Instant, point: &Point) -> (Option<i128>, i128) {
         plain_horizontal(self.direction(body, instant, point).0, point)
     }
 
@@ -217,7 +224,7 @@ impl Plain {
         let dot = times(s[0], m[0]) + times(s[1], m[1]) + times(s[2], m[2]);
         let d = plain_short(length, dot);
         let rs = floor(95_963 * 100_000 * BILLION, 36 * r);
-        let [_, e] = plain_horizontal(m, point);
+        let (_, e) = plain_horizontal(m, point);
         let rm = floor(358_473_400 * (BILLION + times(p, plain_sine(e))), 36 * metres);
         [d, rs, rm, plain_share(d, rs, rm)]
     }
@@ -233,20 +240,20 @@ fn phi(point: &Point) -> i128 {
     10 * i128::from(point.latitude)
 }
 
-/// Azimuth and elevation of the vector after the parallax.
-fn plain_horizontal([a, b, z]: [i128; 3], point: &Point) -> [i128; 2] {
+/// Azimuth, where there is one, and elevation of the vector after the parallax.
+fn plain_horizontal([a, b, z]: [i128; 3], point: &Point) -> (Option<i128>, i128) {
     let (cos_p, sin_p) = (plain_cosine(phi(point)), plain_sine(phi(point)));
     let up = times(a, cos_p) + times(z, sin_p);
     let north = times(z, cos_p) - times(a, sin_p);
     let level = (north * north + b * b).isqrt();
-    let elevation = plain_arctangent(up, level);
+    let elevation = plain_slope(up, level);
     let elevation = if elevation >= TURN / 2 { elevation - TURN } else { elevation };
-    [plain_arctangent(b, north), elevation.clamp(-TURN / 4, TURN / 4)]
+    (plain_arctangent(b, north), elevation.clamp(-TURN / 4, TURN / 4))
 }
 
 /// The arctangent, or a whole turn less it where that is smaller.
 fn plain_short(y: i128, x: i128) -> i128 {
-    let angle = plain_arctangent(y, x);
+    let angle = plain_slope(y, x);
     if TURN - angle < angle {
         TURN - angle
     } else {
@@ -369,12 +376,32 @@ fn places() {
         let instant = Instant::new(&start).unwrap();
         (first, last) = (instant.tt.min(first), instant.tt.max(last));
         for body in [Body::Sun, Body::Moon] {
-            let got = place(start, body, point, Air::None).unwrap();
-            let expected = plain.place(body, &instant, &point);
-            assert_eq!([got.azimuth, got.elevation].map(i128::from), expected, "{body:?} {start:?} {point:?}");
+            check_place(&plain, body, start, point);
         }
     }
     assert!(FIRST_TT <= first && last <= LAST_TT);
+}
+
+/// Straight overhead and underfoot, and next to it.
+#[test]
+fn places_without_azimuth() {
+    let plain = Plain::new();
+    let mut absent = [0; 2];
+    for line in read("vectors/overhead.txt").lines().filter(|line| !line.starts_with('#')) {
+        let words: Vec<&str> = line.split(' ').collect();
+        let (start, point) = start_and_point(&words[1..13].join(" "));
+        let body = if words[0] == "sun" { Body::Sun } else { Body::Moon };
+        absent[body as usize] += usize::from(check_place(&plain, body, start, point).azimuth.is_none());
+    }
+    assert!(absent.iter().all(|&count| count > 90), "{absent:?}");
+}
+
+fn check_place(plain: &Plain, body: Body, start: Start, point: Point) -> Place {
+    let found = place(start, body, point, Air::None).unwrap();
+    let expected = plain.place(body, &Instant::new(&start).unwrap(), &point);
+    let got = (found.azimuth.map(i128::from), i128::from(found.elevation));
+    assert_eq!(got, expected, "{body:?} {start:?} {point:?}");
+    found
 }
 
 /// From any point at any instant, and near the middle of the eclipse of 2009-07-22, where the share is not 0.
@@ -427,7 +454,7 @@ fn sines_and_arctangents() {
         let bound = i64::MAX >> shift;
         for _ in 0..300 {
             let (y, x) = (random.edgy(-bound / 2, bound / 2), random.edgy(-bound / 2, bound / 2));
-            assert_eq!(i128::from(arctangent(y, x)), plain_arctangent(y.into(), x.into()), "{y} {x}");
+            assert_eq!(arctangent(y, x).map(i128::from), plain_arctangent(y.into(), x.into()), "{y} {x}");
         }
     }
     for whole_quarters in -2_000..2_000 {

@@ -87,7 +87,7 @@ fn lines_of_another_form() {
 fn example_of_the_solar_report() {
     let shown = shown_place(START, Body::Sun, POINT, Air::Measured(820.0, 11.0)).unwrap();
     assert!((90.0 - shown.elevation - 50.11162).abs() < 0.0003, "{shown:?}");
-    assert!((shown.azimuth - 194.34024).abs() < 0.0003, "{shown:?}");
+    assert!((shown.azimuth.unwrap() - 194.34024).abs() < 0.0003, "{shown:?}");
     let tt = Instant::new(&START).unwrap().tt;
     let nutation = nutation(tt);
     assert!((nutation.longitude + 399_840).abs() <= 1 && (nutation.obliquity - 166_657).abs() <= 1, "{nutation:?}");
@@ -106,7 +106,7 @@ fn example_of_the_lunar_report() {
     assert!((moon.latitude as f64 / 1e8 - 0.131573).abs() < 1e-6, "{moon:?}");
     assert!((moon.metres as f64 / 1e3 - 357_514.122).abs() < 0.02, "{moon:?}");
     let air = Air::Measured(1000.0, 11.0);
-    let azimuth = |body| shown_place(start, body, point, air).unwrap().azimuth;
+    let azimuth = |body| shown_place(start, body, point, air).unwrap().azimuth.unwrap();
     assert!((azimuth(Body::Sun) - 104.38792).abs() < 0.0003, "{}", azimuth(Body::Sun));
     assert!((azimuth(Body::Moon) - 104.19314).abs() < 0.003, "{}", azimuth(Body::Moon));
 }
@@ -234,7 +234,7 @@ fn a_batch_is_its_places() {
         assert_eq!(count, Ok(offsets.len()));
         for (i, &offset) in offsets.iter().enumerate() {
             let expected = place(later(offset), body, POINT, Air::None).unwrap();
-            assert_eq!((azimuths[i], elevations[i]), (expected.azimuth, expected.elevation), "{offset}");
+            assert_eq!((Some(azimuths[i]), elevations[i]), (expected.azimuth, expected.elevation), "{offset}");
         }
         assert_eq!((azimuths[8], &elevations[8..]), (-7, &[-8, -8][..]));
     }

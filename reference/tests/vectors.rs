@@ -68,6 +68,11 @@ fn horizon() {
 }
 
 #[test]
+fn overhead() {
+    assert_eq!(check_file("overhead.txt"), counted(&[("moon", 212), ("sun", 212)]));
+}
+
+#[test]
 fn eclipses() {
     assert_eq!(check_file("eclipses.txt"), counted(&[("eclipse", 121), ("share", 61)]));
 }
@@ -87,6 +92,11 @@ fn body(word: &str) -> Body {
         "moon" => Body::Moon,
         other => panic!("unknown body {other}"),
     }
+}
+
+/// An angle, or the word for no direction.
+fn direction(word: &str) -> Option<i64> {
+    (word != "none").then(|| whole(word))
 }
 
 fn double(word: &str) -> f64 {
@@ -126,17 +136,29 @@ fn check_place(body: Body, input: &str, answer: &str) {
     let [refusal, azimuth, elevation, shown @ ..] = &answer[..] else { panic!("too short: {answer:?}") };
 
     let got = match place(start, body, point, air) {
-        Ok(place) => [0, place.azimuth, place.elevation],
-        Err(number) => [number.into(), 0, 0],
+        Ok(place) => {
+            check_entries(start, body, point, place);
+            (0, place.azimuth, place.elevation)
+        }
+        Err(number) => (number.into(), Some(0), 0),
     };
-    assert_eq!(got, [whole(refusal), whole(azimuth), whole(elevation)], "{body:?}{input}");
+    assert_eq!(got, (whole(refusal), direction(azimuth), whole(elevation)), "{body:?}{input}");
 
-    let (number, got) = match shown_place(start, body, point, air) {
-        Ok(shown) => (0, [shown.azimuth, shown.elevation, shown.refraction]),
-        Err(number) => (number.into(), [0.0; 3]),
+    let (number, has_azimuth, got) = match shown_place(start, body, point, air) {
+        Ok(Shown { azimuth, elevation, refraction }) => {
+            (0, azimuth.is_some(), [azimuth.unwrap_or(0.0), elevation, refraction])
+        }
+        Err(number) => (number.into(), true, [0.0; 3]),
     };
-    assert_eq!(number, whole(refusal), "{body:?}{input}");
+    assert_eq!((number, has_azimuth), (whole(refusal), direction(azimuth).is_some()), "{body:?}{input}");
     assert_eq!(got.map(|value| format!("{:016x}", value.to_bits())).as_slice(), shown, "{body:?}{input}");
+}
+
+/// A batch of this place alone, in buffers of two.
+fn check_entries(start: Start, body: Body, point: Point, Place { azimuth, elevation }: Place) {
+    let (mut azimuths, mut elevations) = ([-7; 2], [-8; 2]);
+    assert_eq!(batch(start, body, point, &[0], &mut azimuths, &mut elevations), Ok(1));
+    assert_eq!((azimuths, elevations), ([azimuth.unwrap_or(i64::MAX), -7], [elevation, -8]), "{start:?} {point:?}");
 }
 
 fn check_sine(input: &str, answer: &str) {
@@ -146,7 +168,7 @@ fn check_sine(input: &str, answer: &str) {
 
 fn check_arctangent(input: &str, answer: &str) {
     let [y, x] = exactly(input);
-    assert_eq!([arctangent(y, x)], exactly(answer), "arctangent of {y}, {x}");
+    assert_eq!(arctangent(y, x), direction(answer.trim()), "arctangent of {y}, {x}");
 }
 
 fn check_root(input: &str, answer: &str) {

@@ -2,7 +2,7 @@
 #![forbid(unsafe_code)]
 
 use crate::refusal::answer;
-use crate::{archive, Air, Refusal};
+use crate::{archive, direction_in, Air, Refusal};
 
 /// The azimuth half way between two, the short way round, all from north over east, 0 to 35,999,999,999, in 10⁻⁸ degree.
 ///
@@ -68,19 +68,20 @@ pub fn cosine(angle_e8: i64) -> i64 {
     archive::raddlehue_cosine(angle_e8)
 }
 
-/// The angle of the point (x, y) from the x axis towards y, in 10⁻⁸ degree, 0 to 35,999,999,999; y is given first. It is 0 where both are zero.
+/// The angle of the point (x, y) from the x axis towards y, in 10⁻⁸ degree, 0 to 35,999,999,999; y is given first. Two zeros have none.
 ///
 /// Thirty whole-number steps: a pair of thousands or more is good to some units, a tiny one is not.
 ///
 /// ```
 /// use raddlehue::arctangent;
 ///
-/// assert_eq!(arctangent(0, -5), 18_000_000_000);
-/// assert_eq!(arctangent(1, 0), 9_004_472_123);
+/// assert_eq!(arctangent(0, -5), Some(18_000_000_000));
+/// assert_eq!(arctangent(1, 0), Some(9_004_472_123));
+/// assert_eq!(arctangent(0, 0), None);
 /// ```
 #[must_use]
-pub fn arctangent(y: i64, x: i64) -> i64 {
-    archive::raddlehue_arctangent(y, x)
+pub fn arctangent(y: i64, x: i64) -> Option<i64> {
+    direction_in(archive::raddlehue_arctangent(y, x))
 }
 
 /// The greatest whole number whose square is not above the given one.

@@ -1,7 +1,24 @@
 //! The archive's exports, and all the `unsafe` of this package: `include/raddlehue.h` says what each means.
 #![allow(unsafe_code)]
 
-use crate::{Date, Eclipse, Instant, MoonSums, Nutation, Place, Point, Shown, Start, SunSums, DAY_MINUTES};
+use crate::{Date, Eclipse, Instant, MoonSums, Nutation, Point, Start, SunSums, DAY_MINUTES};
+
+/// A place as C has it: its flag is written beside it.
+#[repr(C)]
+#[derive(Default)]
+pub struct Place {
+    pub azimuth_if_any_e8: i64,
+    pub elevation_e8: i64,
+}
+
+/// A shown place as C has it, its flag likewise.
+#[repr(C)]
+#[derive(Default)]
+pub struct Shown {
+    pub azimuth_if_any_degrees: f64,
+    pub elevation_degrees: f64,
+    pub refraction_degrees: f64,
+}
 
 /// What a batch tells beside its refusal.
 #[repr(C)]
@@ -47,6 +64,7 @@ unsafe extern "C" {
         air: u32,
         pressure_mbar: f64,
         temperature_celsius: f64,
+        has_azimuth: &mut u32,
         place: &mut Place,
     ) -> u32;
     pub safe fn raddlehue_shown_place(
@@ -56,6 +74,7 @@ unsafe extern "C" {
         air: u32,
         pressure_mbar: f64,
         temperature_celsius: f64,
+        has_azimuth: &mut u32,
         shown: &mut Shown,
     ) -> u32;
     unsafe fn raddlehue_batch(

@@ -8,13 +8,14 @@
 //! let air = Air::Measured { pressure_mbar: 820.0, temperature_celsius: 11.0 };
 //!
 //! let sun = shown_place(start, Body::Sun, boulder, air)?;
-//! assert_eq!(format!("{:.3} {:.3}", sun.azimuth_degrees, sun.elevation_degrees), "194.340 39.888");
+//! assert_eq!(format!("{:.3?} {:.3}", sun.azimuth_degrees, sun.elevation_degrees), "Some(194.340) 39.888");
 //! # Ok::<(), raddlehue::Refusal>(())
 //! ```
 //!
 //! What is easily mistaken is the same everywhere:
 //!
-//! - **Azimuth** counts from north over east: east is 90 degrees, south 180.
+//! - **Azimuth** counts from north over east: east is 90 degrees, south 180. A body straight overhead or straight underfoot has none: its azimuth is [`None`], and not the
+//!   0 of the north.
 //! - **Longitude** is east positive, and latitude north positive.
 //! - **Time** is UTC, never a local zone. UT1 minus UTC and delta-T (TT minus UT1) are the caller's to give, in tenths of a second.
 //! - **Names say their unit**, as in the C header: `_e7` and `_e8` are 10⁻⁷ and 10⁻⁸ degree, `_e10` is 10⁻¹⁰, `_tenths` are tenths of a second, `_millionths` are of
@@ -52,7 +53,7 @@ pub use day::{day, rise_set, RiseSet, DAY_MINUTES, RISE_SET_E8};
 pub use eclipse::{covered_share, eclipse, Eclipse};
 #[cfg(feature = "alloc")]
 pub use places::places;
-pub use places::{place, places_into, shown_place, Place, Shown};
+pub use places::{direction_in, place, places_into, shown_place, Place, Shown, NO_DIRECTION_E8};
 pub use refusal::Refusal;
 pub use request::{Air, Body, Date, Point, Start};
 pub use sums::{day_count, instant, mean_sidereal, moon_sums, nutation, sun_sums, Instant, MoonSums, Nutation, SunSums};

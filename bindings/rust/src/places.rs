@@ -6,14 +6,46 @@ use crate::{archive, Air, Body, Point, Refusal, Start, DEGREE_E8};
 #[cfg(feature = "alloc")]
 use alloc::{vec, vec::Vec};
 
+/// No direction, where one number has to say so, as in an entry of [`places_into`]'s azimuths: the largest `i64`, which is no azimuth, and which [`middle`](crate::middle) refuses.
+pub const NO_DIRECTION_E8: i64 = i64::MAX;
+
 /// Azimuth from north over east, and elevation from the horizon upward without refraction.
-#[repr(C)]
+///
+/// A body straight overhead or straight underfoot has no azimuth, which is not the 0 of the north. The Sun over Lahaina on Maui, and a tenth of a second later in the west:
+///
+/// ```
+/// use raddlehue::{place, Air, Body, Point, Start};
+///
+/// let lahaina = Point { longitude_e7: -1_566_828_813, latitude_e7: 208_783_487, height_metres: 0 };
+/// let noon = Start::utc(2005, 7, 18, 22, 32, 59).delta_t_tenths(647);
+/// let sun = place(noon, Body::Sun, lahaina, Air::None)?;
+/// assert_eq!((sun.azimuth_e8, sun.elevation_e8), (None, 8_999_999_993));
+/// let later = place(noon.fraction_tenths(1), Body::Sun, lahaina, Air::None)?;
+/// assert_eq!((later.azimuth_e8, later.elevation_e8), (Some(26_995_783_452), 8_999_961_083));
+/// # Ok::<(), raddlehue::Refusal>(())
+/// ```
 #[derive(Clone, Copy, Debug, Default, PartialEq, Eq, Hash)]
 pub struct Place {
-    /// 10⁻⁸ degree from north over east, 0 to 35,999,999,999.
-    pub azimuth_e8: i64,
+    /// 10⁻⁸ degree from north over east, 0 to 35,999,999,999; none for a body straight overhead or straight underfoot.
+    pub azimuth_e8: Option<i64>,
     /// 10⁻⁸ degree from the horizon upward, without refraction, within 9,000,000,000 either way.
     pub elevation_e8: i64,
+}
+
+fn if_any<T>(has_azimuth: u32, azimuth: T) -> Option<T> {
+    (has_azimuth != 0).then_some(azimuth)
+}
+
+/// What an entry of [`places_into`]'s azimuths says: an angle, or, where it is [`NO_DIRECTION_E8`], that there is none.
+///
+/// ```
+/// use raddlehue::{direction_in, NO_DIRECTION_E8};
+///
+/// assert_eq!((direction_in(9_397_013_277), direction_in(NO_DIRECTION_E8)), (Some(9_397_013_277), None));
+/// ```
+#[must_use]
+pub fn direction_in(entry_e8: i64) -> Option<i64> {
+    (entry_e8 != NO_DIRECTION_E8).then_some(entry_e8)
 }
 
 fn degrees(units_e8: i64) -> f64 {
@@ -21,21 +53,21 @@ fn degrees(units_e8: i64) -> f64 {
 }
 
 impl Place {
-    /// Azimuth in degrees from north over east, 0 up to 360.
+    /// Azimuth in degrees from north over east, 0 up to 360, where there is one.
     ///
     /// ```
-    /// let place = raddlehue::Place { azimuth_e8: 9_397_013_277, elevation_e8: 0 };
-    /// assert_eq!(place.azimuth_degrees(), 93.97013277);
+    /// let place = raddlehue::Place { azimuth_e8: Some(9_397_013_277), elevation_e8: 0 };
+    /// assert_eq!(place.azimuth_degrees(), Some(93.97013277));
     /// ```
     #[must_use]
-    pub fn azimuth_degrees(self) -> f64 {
-        degrees(self.azimuth_e8)
+    pub fn azimuth_degrees(self) -> Option<f64> {
+        self.azimuth_e8.map(degrees)
     }
 
     /// Elevation in degrees from the horizon upward, without refraction, -90 to 90.
     ///
     /// ```
-    /// let place = raddlehue::Place { azimuth_e8: 0, elevation_e8: -4_550_000_000 };
+    /// let place = raddlehue::Place { azimuth_e8: None, elevation_e8: -4_550_000_000 };
     /// assert_eq!(place.elevation_degrees(), -45.5);
     /// ```
     #[must_use]
@@ -45,11 +77,10 @@ impl Place {
 }
 
 /// Azimuth from north over east, elevation from the horizon upward with the refraction in it, and that refraction.
-#[repr(C)]
 #[derive(Clone, Copy, Debug, Default, PartialEq)]
 pub struct Shown {
-    /// Degrees from north over east, 0 up to 360.
-    pub azimuth_degrees: f64,
+    /// Degrees from north over east, 0 up to 360; none for a body straight overhead or straight underfoot.
+    pub azimuth_degrees: Option<f64>,
     /// Degrees from the horizon upward, refraction included.
     pub elevation_degrees: f64,
     /// Degrees by which the air lifts the body: 0 with no air and below [`LOWEST_REFRACTED_E8`](crate::LOWEST_REFRACTED_E8), slightly below 0 near the zenith, by the report's formula.
@@ -69,12 +100,16 @@ pub struct Shown {
 /// let start = Start::utc(2100, 8, 5, 5, 45, 21).fraction_tenths(9).ut1_tenths(-8).delta_t_tenths(-58_850);
 /// let point = Point { longitude_e7: 628_815_586, latitude_e7: 221_655_669, height_metres: 9000 };
 /// let sun = place(start, Body::Sun, point, Air::None)?;
-/// assert_eq!((sun.azimuth_e8, sun.elevation_e8), (9_397_013_277, 5_921_374_473));
+/// assert_eq!((sun.azimuth_e8, sun.elevation_e8), (Some(9_397_013_277), 5_921_374_473));
 /// # Ok::<(), raddlehue::Refusal>(())
 /// ```
 pub fn place(start: Start, body: Body, point: Point, air: Air) -> Result<Place, Refusal> {
     let (kind, pressure, temperature) = air.parts();
-    answer(|place| archive::raddlehue_place(&start, body.code(), &point, kind, pressure, temperature, place))
+    let mut has_azimuth = 0;
+    let seen: archive::Place = answer(|place| {
+        archive::raddlehue_place(&start, body.code(), &point, kind, pressure, temperature, &mut has_azimuth, place)
+    })?;
+    Ok(Place { azimuth_e8: if_any(has_azimuth, seen.azimuth_if_any_e8), elevation_e8: seen.elevation_e8 })
 }
 
 /// Azimuth (north over east) and elevation (upward, refracted) in degrees at a UTC start with its UT1 and delta-T; longitude east positive.
@@ -93,7 +128,15 @@ pub fn place(start: Start, body: Body, point: Point, air: Air) -> Result<Place, 
 /// ```
 pub fn shown_place(start: Start, body: Body, point: Point, air: Air) -> Result<Shown, Refusal> {
     let (kind, pressure, temperature) = air.parts();
-    answer(|shown| archive::raddlehue_shown_place(&start, body.code(), &point, kind, pressure, temperature, shown))
+    let mut has_azimuth = 0;
+    let seen: archive::Shown = answer(|shown| {
+        archive::raddlehue_shown_place(&start, body.code(), &point, kind, pressure, temperature, &mut has_azimuth, shown)
+    })?;
+    Ok(Shown {
+        azimuth_degrees: if_any(has_azimuth, seen.azimuth_if_any_degrees),
+        elevation_degrees: seen.elevation_degrees,
+        refraction_degrees: seen.refraction_degrees,
+    })
 }
 
 /// Azimuths (north over east) and elevations (upward, no refraction) at offsets in tenths of a second after a UTC start; longitude east positive.
@@ -119,12 +162,13 @@ pub fn places(start: Start, body: Body, point: Point, offsets_tenths: &[u32]) ->
     let mut elevations = vec![0; offsets_tenths.len()];
     places_into(start, body, point, offsets_tenths, &mut azimuths, &mut elevations)?;
     let pairs = azimuths.into_iter().zip(elevations);
-    Ok(pairs.map(|(azimuth_e8, elevation_e8)| Place { azimuth_e8, elevation_e8 }).collect())
+    Ok(pairs.map(|(entry_e8, elevation_e8)| Place { azimuth_e8: direction_in(entry_e8), elevation_e8 }).collect())
 }
 
 /// Azimuths (north over east) and elevations (upward, no refraction), both in 10⁻⁸ degree, into two lent buffers, at offsets in tenths of a second after a UTC start.
 ///
-/// The answer is how many entries of each were written, which is how many offsets there are. What lies beyond keeps its contents, and a refused batch writes nothing.
+/// The answer is how many entries of each were written, which is how many offsets there are. Where there is no azimuth, [`NO_DIRECTION_E8`] stands in its entry
+/// ([`direction_in`] asks for it). What lies beyond keeps its contents, and a refused batch writes nothing.
 ///
 /// # Errors
 /// [`Year`](Refusal::Year) to [`Height`](Refusal::Height), 1 to 9, then [`ShortBuffer`](Refusal::ShortBuffer), 12, and [`TooLate`](Refusal::TooLate), 13.

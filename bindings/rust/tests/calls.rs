@@ -22,7 +22,7 @@ fn near(found: f64, printed: f64) {
 #[test]
 fn example_of_the_report() {
     let shown = shown_place(START, Body::Sun, POINT, AIR).unwrap();
-    near(shown.azimuth_degrees, 194.34024);
+    near(shown.azimuth_degrees.unwrap(), 194.34024);
     near(90.0 - shown.elevation_degrees, 50.11162);
     let place = place(START, Body::Sun, POINT, AIR).unwrap();
     assert_eq!(place.azimuth_degrees(), shown.azimuth_degrees);
@@ -34,6 +34,39 @@ fn example_of_the_report() {
 fn the_moon_is_no_sun() {
     let [sun, moon] = [Body::Sun, Body::Moon].map(|body| place(START, body, POINT, Air::None).unwrap());
     assert_ne!(sun, moon);
+}
+
+// The Sun straight over Lahaina on Maui: a tenth of a second before it is in the east, and a tenth after in the west.
+const OVERHEAD: Start = Start::utc(2005, 7, 18, 22, 32, 59).delta_t_tenths(647);
+const TENTH_BEFORE: Start = Start { second: 58, fraction_tenths: 9, ..OVERHEAD };
+const LAHAINA: Point = Point { longitude_e7: -1_566_828_813, latitude_e7: 208_783_487, height_metres: 0 };
+
+#[test]
+fn straight_overhead_there_is_no_azimuth() {
+    let sun = place(OVERHEAD, Body::Sun, LAHAINA, AIR).unwrap();
+    assert_eq!(sun, Place { azimuth_e8: None, elevation_e8: 8_999_999_993 });
+    assert_eq!(sun.azimuth_degrees(), None);
+    let shown = shown_place(OVERHEAD, Body::Sun, LAHAINA, AIR).unwrap();
+    assert_eq!(shown.azimuth_degrees, None);
+    assert_eq!(shown.elevation_degrees, sun.elevation_degrees() + shown.refraction_degrees);
+}
+
+// tests/vectors/leaves.txt
+#[test]
+fn straight_underfoot_there_is_no_azimuth() {
+    let start = Start::utc(2038, 9, 14, 15, 57, 15).fraction_tenths(9).ut1_tenths(3).delta_t_tenths(10_224);
+    let atlantic = Point { longitude_e7: -464_318_022, latitude_e7: 25_923_395, height_metres: 54 };
+    let moon = place(start, Body::Moon, atlantic, Air::None);
+    assert_eq!(moon, Ok(Place { azimuth_e8: None, elevation_e8: -8_999_999_993 }));
+}
+
+#[test]
+fn the_mark_stands_in_that_entry_alone() {
+    let (mut azimuths, mut elevations) = ([-7; 4], [-8; 3]);
+    assert_eq!(places_into(TENTH_BEFORE, Body::Sun, LAHAINA, &[2, 1, 0], &mut azimuths, &mut elevations), Ok(3));
+    assert_eq!(azimuths, [26_995_783_452, NO_DIRECTION_E8, 8_999_156_196, -7]);
+    assert_eq!(elevations, [8_999_961_083, 8_999_999_993, 8_999_961_083]);
+    assert_eq!(middle(azimuths[0], azimuths[1]), Err(Refusal::NotReduced));
 }
 
 #[test]
@@ -148,7 +181,7 @@ fn entries_are_places() {
     assert_eq!(found, starts.map(|start| place(start, Body::Moon, POINT, Air::None).unwrap()));
     let (mut azimuths, mut elevations) = ([-7; 4], [-8; 5]);
     assert_eq!(places_into(START, Body::Moon, POINT, &offsets, &mut azimuths, &mut elevations), Ok(3));
-    assert_eq!(azimuths, [found[0].azimuth_e8, found[1].azimuth_e8, found[2].azimuth_e8, -7]);
+    assert_eq!(azimuths.map(direction_in), [found[0].azimuth_e8, found[1].azimuth_e8, found[2].azimuth_e8, Some(-7)]);
     assert_eq!(elevations, [found[0].elevation_e8, found[1].elevation_e8, found[2].elevation_e8, -8, -8]);
 }
 
@@ -322,7 +355,8 @@ fn refractions() {
 #[test]
 fn numbers() {
     assert_eq!((sine(270 * DEGREE_E8), cosine(0)), (-1_000_000_000, 1_000_000_000));
-    assert_eq!((arctangent(0, 0), arctangent(-4_080_956_101_403_165_189, 139_721_335)), (0, 27_000_000_007));
+    assert_eq!((arctangent(0, 0), arctangent(0, 1)), (None, Some(0)));
+    assert_eq!(arctangent(-4_080_956_101_403_165_189, 139_721_335), Some(27_000_000_007));
     for square in [0, 1, 3, 4, u64::MAX] {
         let root = root(square);
         assert!(root * root <= square && (root + 1).checked_mul(root + 1).is_none_or(|above| above > square));
@@ -426,6 +460,7 @@ fn constants_are_the_headers() {
         ("SECOND", SECOND),
         ("DEGREE_E7", DEGREE_E7),
         ("DEGREE_E8", DEGREE_E8),
+        ("NO_DIRECTION_E8", NO_DIRECTION_E8),
         ("DAY_MINUTES", DAY_MINUTES as i64),
         ("RISE_SET_E8", RISE_SET_E8),
         ("LOWEST_REFRACTED_E8", LOWEST_REFRACTED_E8),

@@ -2,7 +2,7 @@
 
 use super::report::{Row, Sight};
 use crate::format::short_percent;
-use crate::sky::Eclipse;
+use crate::sky::{Eclipse, Place, DEGREE_E8};
 use crate::svg::{degrees, tenths, text, Spot, MARGIN, WIDTH};
 
 /// The windows' upper edge, the width of each, and how much of the sheet a degree of sky takes there.
@@ -71,12 +71,28 @@ fn window(sight: &Sight, (left, top): Spot) -> String {
     )
 }
 
-/// In degrees to the right and upward: as far as the separation, in the direction that the two places have.
+/// A Sun without an azimuth has no side on which the zenith lies, so that north is up instead.
+pub fn turned(sun: Place) -> Option<&'static str> {
+    let words = match sun.elevation_e8 < 0 {
+        false => "Sun straight overhead: north up, east left",
+        true => "Sun straight underfoot: north up, east right",
+    };
+    sun.azimuth_e8.is_none().then_some(words)
+}
+
+/// Where one faces the Sun.
+fn facing_e8(sun: Place) -> i64 {
+    let with_north_up = if sun.elevation_e8 < 0 { 0 } else { 180 * DEGREE_E8 };
+    sun.azimuth_e8.unwrap_or(with_north_up)
+}
+
+/// In degrees to the right and upward: as far as the separation, in the direction that the two places have. A Moon without an azimuth is right above the Sun or right below it.
 fn moon_from_sun(sight: &Sight) -> (f64, f64) {
     let radians = |units_e8| degrees(units_e8).to_radians();
     let (sun_sine, sun_cosine) = radians(sight.sun.elevation_e8).sin_cos();
     let (moon_sine, moon_cosine) = radians(sight.moon.elevation_e8).sin_cos();
-    let (across_sine, across_cosine) = radians(sight.moon.azimuth_e8 - sight.sun.azimuth_e8).sin_cos();
+    let across_e8 = sight.moon.azimuth_e8.map_or(0, |azimuth_e8| azimuth_e8 - facing_e8(sight.sun));
+    let (across_sine, across_cosine) = radians(across_e8).sin_cos();
     let (right, up) = (moon_cosine * across_sine, moon_sine * sun_cosine - moon_cosine * sun_sine * across_cosine);
     let length = right.hypot(up);
     let separation = degrees(sight.disks.separation_e8);
@@ -90,11 +106,13 @@ fn moon_from_sun(sight: &Sight) -> (f64, f64) {
 #[cfg(test)]
 mod tests {
     use super::*;
-    use crate::sky::Place;
     use crate::time::Moment;
 
+    fn place((azimuth_e8, elevation_e8): (i64, i64)) -> Place {
+        Place { azimuth_e8: Some(azimuth_e8), elevation_e8 }
+    }
+
     fn sight(sun: (i64, i64), moon: (i64, i64), separation_e8: i64) -> Sight {
-        let place = |(azimuth_e8, elevation_e8)| Place { azimuth_e8, elevation_e8 };
         let disks = Eclipse { separation_e8, ..Eclipse::default() };
         let moment = Moment::read("2026-08-12T20:29:09+02:00").unwrap();
         Sight { second: 0, moment, disks, sun: place(sun), moon: place(moon) }
@@ -114,6 +132,24 @@ mod tests {
         let over_zenith = sight((0, 8_980_000_000), (18_000_000_000, 8_970_000_000), 50_000_000);
         assert!(is_near(moon_from_sun(&over_zenith), (0.0, 0.5)));
         assert_eq!(moon_from_sun(&sight((0, 0), (0, 0), 0)), (0.0, 0.0));
+    }
+
+    // The Moon is in the north-west, or right above and right below.
+    #[test]
+    fn one_without_an_azimuth() {
+        let none = |elevation_e8| Place { azimuth_e8: None, elevation_e8 };
+        let half = 0.5 * 0.5f64.sqrt();
+        for (overhead, sideways) in [(1, half), (-1, -half)] {
+            let seen = sight((0, 0), (31_500_000_000, overhead * 8_950_000_000), 50_000_000);
+            let seen = Sight { sun: none(overhead * 8_999_999_993), ..seen };
+            assert!(is_near(moon_from_sun(&seen), (sideways, half)), "{overhead}");
+            assert!(turned(seen.sun).is_some_and(|words| words.contains("north up")) && turned(seen.moon).is_none());
+            let seen = sight((31_500_000_000, overhead * 8_950_000_000), (0, 0), 50_000_000);
+            let seen = Sight { moon: none(overhead * 8_999_999_993), ..seen };
+            assert!(is_near(moon_from_sun(&seen), (0.0, 0.5 * overhead as f64)), "{overhead}");
+            let both = Sight { sun: seen.moon, disks: Eclipse::default(), ..seen };
+            assert_eq!(moon_from_sun(&both), (0.0, 0.0));
+        }
     }
 
     #[test]

@@ -1,9 +1,10 @@
 //! A day's eclipse as text, as JSON and as CSV.
 
 use super::report::{Report, Row, Sight};
-use crate::format::{self, angle, percent, shown_place};
+use crate::format::{self, angle, json_member, no_azimuth_words, percent, shown_place};
 use crate::observer::scales_words;
 use crate::rise_set::{passed_degrees, Stays};
+use crate::sky::Body;
 
 // ---- text
 
@@ -20,8 +21,9 @@ pub fn text(report: &Report) -> String {
     if report.passage.is_some() {
         text += &format!(
             "covered in per cent of the Sun's disk; azimuth in degrees from north over east\n\
-             elevation in degrees above the horizon, without refraction; the Sun is up from {} degrees\n\
+             {}elevation in degrees above the horizon, without refraction; the Sun is up from {} degrees\n\
              to the second: what begins has its first second here, what ends its last\n\n{}",
+            no_azimuth_words(report.sights().map(|sight| (Body::Sun, sight.sun))),
             passed_degrees(),
             table(report)
         );
@@ -57,12 +59,14 @@ const FIGURES: [&str; 7] = [
     "moon_radius_degrees",
 ];
 
-fn all_figures(sight: Sight) -> [String; 7] {
+// A phase that is not answered has none of them.
+fn all_figures(sight: Option<Sight>) -> [Option<String>; 7] {
+    let Some(sight) = sight else { return Default::default() };
     let Sight { disks, sun, .. } = sight;
-    let [azimuth, elevation] = [sun.azimuth_e8, sun.elevation_e8].map(angle);
-    let [separation, sun_radius, moon_radius] = [disks.separation_e8, disks.sun_radius_e8, disks.moon_radius_e8].map(angle);
-    let (share, is_up) = (percent(disks.share_millionths), sight.sun_is_up().to_string());
-    [share, azimuth, elevation, is_up, separation, sun_radius, moon_radius]
+    let [elevation, separation, sun_radius, moon_radius] =
+        [sun.elevation_e8, disks.separation_e8, disks.sun_radius_e8, disks.moon_radius_e8].map(|units_e8| Some(angle(units_e8)));
+    let [share, is_up] = [percent(disks.share_millionths), sight.sun_is_up().to_string()].map(Some);
+    [share, format::azimuth(sun), elevation, is_up, separation, sun_radius, moon_radius]
 }
 
 /// What the day has as a whole: each name, what it is, and whether that is a word.
@@ -94,22 +98,12 @@ pub fn json(report: &Report) -> String {
     ])
 }
 
-fn json_member(name: &str, value: Option<String>, is_word: bool) -> String {
-    match value {
-        Some(word) if is_word => format!("\"{name}\": \"{word}\""),
-        Some(figure) => format!("\"{name}\": {figure}"),
-        None => format!("\"{name}\": null"),
-    }
-}
-
 fn json_row(row: &Row) -> String {
-    let figures = row.sight.map(all_figures);
     let mut members = vec![
         json_member("phase", Some(row.phase.key()), true),
         json_member("time", row.sight.map(|sight| sight.moment.written()), true),
     ];
-    let figure = |index: usize| figures.as_ref().map(|figures| figures[index].clone());
-    members.extend(FIGURES.iter().enumerate().map(|(index, name)| json_member(name, figure(index), false)));
+    members.extend(FIGURES.iter().zip(all_figures(row.sight)).map(|(name, figure)| json_member(name, figure, false)));
     format!("{{{}}}", members.join(", "))
 }
 
@@ -120,7 +114,7 @@ pub fn csv(report: &Report) -> String {
     let scales = format::csv_scales(report.watch.observer.scales(report.watch.midnight));
     let row = |row: &Row| {
         let time = row.sight.map_or(String::new(), |sight| sight.moment.written());
-        let figures = row.sight.map_or(Default::default(), all_figures).join(",");
+        let figures = all_figures(row.sight).map(Option::unwrap_or_default).join(",");
         format!("{},{time},{figures},{},{scales}", row.phase.key(), values.join(","))
     };
     let head = format!("phase,time,{},{},{}", FIGURES.join(","), names.join(","), format::CSV_SCALES);

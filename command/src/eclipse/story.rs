@@ -1,5 +1,6 @@
 //! What the picture of an eclipse says in words.
 
+use super::disks::turned;
 use super::report::{Report, Row};
 use crate::format::percent;
 use crate::observer::{scales_words, short_range_words};
@@ -32,9 +33,9 @@ impl Story {
         let place = format!("{}, {zone}", observer.short_words());
         let mut notes = Vec::new();
         if report.passage.is_some() {
-            notes.extend(
-                ["disks as one faces the Sun, the zenith up", "under each: share covered, Sun's elevation"].map(str::to_string),
-            );
+            notes.push("disks as one faces the Sun, the zenith up".to_string());
+            notes.extend(report.sights().find_map(|sight| turned(sight.sun)).map(str::to_string));
+            notes.push("under each: share covered, Sun's elevation".to_string());
             notes.push(format!("up from {}°, without refraction", passed_degrees()));
         }
         notes.extend(short_range_words(scales, scales));

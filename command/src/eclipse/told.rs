@@ -59,7 +59,7 @@ impl Report {
         }
     }
 
-    fn sights(&self) -> impl Iterator<Item = Sight> + '_ {
+    pub fn sights(&self) -> impl Iterator<Item = Sight> + '_ {
         self.rows.iter().filter_map(|row| row.sight)
     }
 

@@ -23,8 +23,10 @@ pub struct Track {
     pub hours: Vec<Dot>,
 }
 
+// What has no azimuth is at the zenith, which is one point of the sheet, or far below it: it may be taken as in the middle.
 fn dot(place: Place, centre: f64) -> Dot {
-    Dot { right: short_way(degrees(place.azimuth_e8) - centre), up: degrees(place.elevation_e8) }
+    let right = place.azimuth_e8.map_or(0.0, |azimuth_e8| short_way(degrees(azimuth_e8) - centre));
+    Dot { right, up: degrees(place.elevation_e8) }
 }
 
 impl Track {

@@ -1,13 +1,13 @@
--- The arctangent: which case a test of the sign leaves, and how large the numbers grow.
+-- The arctangent: which case a test of the sign leaves, how large the numbers grow, and what a direction keeps to.
 use mathlib.Core.Bool.{Bool, cond, false, true}
 use mathlib.Core.List.{[], _∷_}
-use mathlib.Core.Path.{_≡_, refl, subst, subst⁻¹, sym}
+use mathlib.Core.Path.{_≡_, ap, refl, subst, subst⁻¹, sym}
 use Prim.Native.Nat.{_*_, _+_, _/_, _<_, _^_, _≤_, suc, zero, ℕ}
 use native.Mathlib.Decide.{le-ind}
-use native.Mathlib.Nat.{le-refl, le-trans}
+use native.Mathlib.Nat.{le-of-lt, le-refl, le-trans}
 use native.Mathlib.Numerals.{add-one}
 use native.Mathlib.Omega.{arith}
-use lib.Dec.{eqb, leb, lit<, lit≤, ltb→lt}
+use lib.Dec.{T, eqb, leb, lit≤, ltb→lt}
 use lib.IntN.{_*ℤ_, _+ℤ_, _-ℤ_, natAbs, negsuc, negℤ, pos, ℤ}
 use lib.Signed.{_<ℤ_, _≤ℤ_, leZ}
 use borrow.Author.Tests.{le-leb, lt-leb, ne-eqb}
@@ -17,8 +17,11 @@ use Rattle.arithmetic.proofs.FloorLaws.{floor-most}
 use Rattle.arithmetic.proofs.Integers.{solveℤ}
 use Rattle.arithmetic.proofs.Sizes.{abs-neg, add-bound, mul-bound, sub-bound}
 use Rattle.arithmetic.proofs.Solver.{_:*_, _:+_, _:-_, con, k0, k1, x0, x1}
-use Rattle.number_rules.specs.Angle.{full-turn, half-turn, reduced}
-use Rattle.arctangent.specs.Arctangent.{arctangent, no-direction, start, step, steps}
+use Rattle.number_rules.specs.Angle.{full-turn, half-turn}
+use Rattle.arctangent.specs.Arctangent.{angle-of, arctangent, start, step, steps}
+use Rattle.arctangent.specs.Direction.{Reduced, angle-or, is-there, mark}
+use Rattle.arctangent.specs.declared.direction.Direction.{Direction}
+use Rattle.arctangent.specs.declared.direction.Direction.the-variants.{None, Towards}
 use Rattle.number_rules.specs.ArctangentTable.{turn-by}
 use Rattle.numbers.specs.Whole.{by-sign, sign}
 use Rattle.arctangent.specs.declared.direction.Turning.{Turning}
@@ -155,22 +158,48 @@ start-sized y (negsuc n) h k = record {
   angle-size = lit≤ tt;
 }
 
+-- ---- the direction
+pub angle-below : (y x : ℤ) → angle-of y x < full-turn
+unfolding angle-of
+angle-below y x = reduced-below (steps 30 (start y x) .angle)
+
 -- both numbers zero or not
-pub both-zero : {y x : ℤ} → y ≡ pos 0 → x ≡ pos 0 → arctangent y x ≡ no-direction
+pub both-zero : {y x : ℤ} → y ≡ pos 0 → x ≡ pos 0 → arctangent y x ≡ None
 unfolding arctangent
 both-zero e f = rw (e, f) refl
 
-pub not-both : (y x : ℤ) → 0 < natAbs y + natAbs x → arctangent y x ≡ reduced (steps 30 (start y x) .angle)
+pub not-both : (y x : ℤ) → 0 < natAbs y + natAbs x → arctangent y x ≡ Towards (record { units = angle-of y x })
 unfolding arctangent
 not-both y x h = rw (ne-eqb (natAbs y + natAbs x) 0 (omega arith)) refl
 
-pub arctangent-below : (y x : ℤ) → arctangent y x < full-turn
+pub arctangent-reduced : (y x : ℤ) → Reduced (arctangent y x)
 unfolding arctangent
-arctangent-below y x = go (eqb (natAbs y + natAbs x) 0)
+arctangent-reduced y x = go (eqb (natAbs y + natAbs x) 0)
   where
-    go : (b : Bool) → cond b no-direction (reduced (steps 30 (start y x) .angle)) < full-turn
-    go true = lit< tt
-    go false = reduced-below (steps 30 (start y x) .angle)
+    go : (b : Bool) → Reduced (cond b None (Towards (record { units = angle-of y x })))
+    go true = tt
+    go false = angle-below y x
+
+-- its angle, with a number below a full turn for none, is such a number too
+pub angle-most : (none : ℤ) (d : Direction) → natAbs none ≤ full-turn → Reduced d → natAbs (angle-or none d) ≤ full-turn
+angle-most none (Towards angle) h r = le-of-lt r
+angle-most none None h r = h
+
+pub angle-natural : (none : ℕ) (d : Direction) → angle-or (pos none) d ≡ pos (natAbs (angle-or (pos none) d))
+angle-natural none (Towards angle) = refl
+angle-natural none None = refl
+
+-- one direction and no other is there and has the angle
+pub direction-tells : (c d : Direction) → is-there c ≡ is-there d → angle-or (pos 0) c ≡ angle-or (pos 0) d → c ≡ d
+direction-tells (Towards a) (Towards b) there same = ap (λ (z : ℤ). Towards (record { units = natAbs z })) same
+direction-tells (Towards a) None there same = absurd (subst T there tt)
+direction-tells None (Towards b) there same = absurd (subst⁻¹ T there tt)
+direction-tells None None there same = refl
+
+-- and none is an angle, so that the mark is told from any
+pub mark-tells : (d : Direction) → Reduced d → angle-or mark d ≡ mark → d ≡ None
+mark-tells (Towards angle) r same = absurd (omega (arith, r, ap natAbs same))
+mark-tells None r same = refl
 
 -- ---- a small number: at most 2⁴⁰ on either side of zero
 abbrev least : ℤ

@@ -1,9 +1,11 @@
--- The arctangent of (y, x) (01, "Arctangent"): a reduced angle.
+-- The arctangent of (y, x) (01, "Arctangent", as 02's Item 5 mends it): a reduced angle, or no direction.
 use mathlib.Core.Bool.{cond}
 use Prim.Native.Nat.{ℕ, zero, suc, _+_, _^_}
 use lib.Dec.{eqb}
 use lib.IntN.{ℤ, pos, negsuc, negℤ, natAbs, _+ℤ_, _-ℤ_, _*ℤ_}
 use Rattle.arithmetic.specs.Floor.{⌊_÷_⌋}
+use Rattle.arctangent.specs.declared.direction.Direction.{Direction}
+use Rattle.arctangent.specs.declared.direction.Direction.the-variants.{None, Towards}
 use Rattle.arctangent.specs.declared.direction.Turning.{Turning}
 use Rattle.numbers.specs.Whole.{by-sign}
 use Rattle.number_rules.specs.Angle.{half-turn, reduced}
@@ -27,9 +29,10 @@ unfoldable pub start : ℤ → ℤ → Turning
 start y (pos x) = record { x = pos x *ℤ pos 1024; y = y *ℤ pos 1024; angle = pos 0 }
 start y (negsuc x) = record { x = negℤ (negsuc x *ℤ pos 1024); y = negℤ (y *ℤ pos 1024); angle = pos half-turn }
 
--- both zero
-abbrev pub no-direction : ℕ
-no-direction = 0
+-- the angle after all thirty, reduced
+unfoldable pub angle-of : ℤ → ℤ → ℕ
+angle-of y x = reduced (steps 30 (start y x) .angle)
 
-unfoldable pub arctangent : ℤ → ℤ → ℕ
-arctangent y x = cond (eqb (natAbs y + natAbs x) 0) no-direction (reduced (steps 30 (start y x) .angle))
+-- both zero: no direction
+unfoldable pub arctangent : ℤ → ℤ → Direction
+arctangent y x = cond (eqb (natAbs y + natAbs x) 0) None (Towards (record { units = angle-of y x }))

@@ -1,2 +1,3 @@
 pub mod Arctangent
+pub mod Direction
 pub mod Limbs

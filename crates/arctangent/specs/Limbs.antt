@@ -4,7 +4,7 @@ use lib.IntN.{ℤ, pos, natAbs, _+ℤ_, _*ℤ_}
 use lib.Signed.{_≤ℤ_, _<ℤ_}
 use Rattle.arctangent.specs.declared.direction.Turning.{Turning}
 use Rattle.arctangent.specs.declared.limbs.Limbs.{Limbs}
-use Rattle.arctangent.specs.declared.wide_direction.WideTurning.{WideTurning}
+use Rattle.arctangent.specs.declared.wide_angle.WideTurning.{WideTurning}
 
 -- 2²⁴
 abbrev pub limb : ℕ

@@ -1,15 +1,15 @@
-// The arctangent of a pair of numbers, as a reduced angle.
-use super::wide_direction::wide_direction;
+// The arctangent of a pair of numbers: its direction, which two zeros do not have.
+use super::wide_angle::wide_angle;
 use numbers::angle::Angle;
 use numbers::whole::sign_of;
 ghost use mathlib.Core.Path.{_≡_};
-ghost use Prim.Native.Nat.{_≤_, _<_, _^_};
+ghost use Prim.Native.Nat.{_+_, _≤_, _<_, _^_};
 ghost use mathlib.Core.List.{map};
 ghost use lib.Dec.{leb};
 ghost use lib.IntN.{pos, natAbs};
-ghost use Rattle.number_rules.specs.Angle.{reduced};
 ghost use Rattle.number_rules.specs.ArctangentTable.{arctangents};
-ghost use Rattle.arctangent.specs.Arctangent.{step, steps, start, arctangent};
+ghost use Rattle.arctangent.specs.Arctangent.{step, steps, start, angle-of, arctangent};
+ghost use Rattle.arctangent.specs.Direction.{Reduced, angle-or, is-there};
 
 // The angles whose tangents are 1, 1/2, 1/4, ..
 pub const ARCTANGENTS: [i64; 30] = [
@@ -45,8 +45,14 @@ pub const ARCTANGENTS: [i64; 30] = [
     11,
 ];
 
-// What both numbers zero answer.
-const NO_DIRECTION: u64 = 0;
+// Where a pair points to from the x axis towards the y axis: a reduced angle, or nowhere.
+pub enum Direction {
+    Towards(Angle),
+    None,
+}
+
+// No direction, where one number has to say so.
+pub const MARK: i64 = 9_223_372_036_854_775_807;
 
 // A pair that is turned towards the x axis, and the angle that it has been turned by.
 pub struct Turning {
@@ -120,40 +126,56 @@ fn is_small(z: i64) -> bool
     z <= 1_099_511_627_776
 }
 
-// The direction of a small pair.
-fn narrow_direction(y: i64, x: i64) -> Angle
+// The angle of a small pair.
+fn narrow_angle(y: i64, x: i64) -> Angle
     requires { ⌜ (natAbs y ≤ 2 ^ 40) × (natAbs x ≤ 2 ^ 40) ⌝ }
-    ensures { λ r. ⌜ r .units ≡ reduced (steps 30 (start y x) .angle) ⌝ }
+    ensures { λ r. ⌜ r .units ≡ angle-of y x ⌝ }
 {
     let t = turned(started(y, x));
     let a = t.angle;
     Angle::new(a)
 }
 
-// The direction of a pair that has one.
-fn direction(y: i64, x: i64) -> Angle
-    ensures { λ r. ⌜ r .units ≡ reduced (steps 30 (start y x) .angle) ⌝ }
+// The angle of a pair that is known to have a direction.
+pub fn angle_of(y: i64, x: i64) -> Angle
+    requires { ⌜ 0 < natAbs y + natAbs x ⌝ }
+    ensures { λ r. ⌜ r .units ≡ angle-of y x ⌝ }
 {
     if is_small(y) {
         if is_small(x) {
-            return narrow_direction(y, x);
+            return narrow_angle(y, x);
         }
-        return wide_direction(y, x);
+        return wide_angle(y, x);
     }
-    wide_direction(y, x)
+    wide_angle(y, x)
 }
 
-// From the x axis towards the y axis, for any two numbers.
-pub fn arctangent(y: i64, x: i64) -> Angle
-    ensures { λ r. ⌜ r .units ≡ arctangent y x ⌝ }
+// The direction of any pair.
+pub fn arctangent(y: i64, x: i64) -> Direction
+    ensures { λ r. ⌜ r ≡ arctangent y x ⌝ }
 {
-    if y == 0 {
-        if x == 0 {
-            return Angle {
-                units: NO_DIRECTION,
-            };
-        }
-        return direction(y, x);
+    if y == 0 && x == 0 {
+        return Direction::None;
     }
-    direction(y, x)
+    Direction::Towards(angle_of(y, x))
+}
+
+// The angle of a direction, or a number for none.
+pub fn angle_or(none: i64, direction: Direction) -> i64
+    requires { ⌜ Reduced direction ⌝ }
+    ensures { λ r. ⌜ r ≡ angle-or none direction ⌝ }
+{
+    match direction {
+        Direction::Towards(angle) => angle.units as i64,
+        Direction::None => none,
+    }
+}
+
+pub fn is_there(direction: Direction) -> bool
+    ensures { λ r. ⌜ r ≡ is-there direction ⌝ }
+{
+    match direction {
+        Direction::Towards(_) => true,
+        Direction::None => false,
+    }
 }

@@ -1,4 +1,4 @@
 // The arctangent of a pair of numbers, equal to its rule.
 pub mod direction;
 mod limbs;
-mod wide_direction;
+mod wide_angle;

@@ -1,2 +1,3 @@
 pub mod BatchLaws
 pub mod Demand3
+pub mod Mark

@@ -1,11 +1,15 @@
 -- Batch (01, "A request and its numbered refusals"): many samples from one start.
 use mathlib.Core.Bool.{Bool, _&&_, cond}
 use mathlib.Core.List.{List, [], _++_, _∷_, map}
+use mathlib.Core.Logic.{_↔_}
+use mathlib.Core.Path.{_≡_}
 use Prim.Native.Nat.{_-_, _<_, suc, ℕ}
 use lib.Dec.{eqb, leb}
 use lib.IntN.{_+ℤ_, pos, ℤ}
 use lib.ListN.{drop, getD, length}
 use lib.Signed.{ltZ}
+use Rattle.arctangent.specs.Direction.{azimuth-numbers, mark}
+use Rattle.arctangent.specs.declared.direction.Direction.the-variants.{None}
 use Rattle.sky_vectors.specs.Place.{place-at, place-from}
 use Rattle.sky_vectors.specs.SkyRange.{Reachable}
 use Rattle.calendar.specs.Refusal.{_unless_, first, number}
@@ -74,15 +78,20 @@ later start offset = moved start (pos offset)
 unfoldable pub filled : (ℕ → ℤ) → List ℕ → List ℤ → List ℤ
 filled entry offsets before = map entry offsets ++ drop (length offsets) before
 
+-- where the azimuth is absent, the largest signed 64-bit number stands in that entry (02, Item 5)
 abbrev pub azimuth-at : Body → Point → Instant → ℕ → ℤ
-azimuth-at body p start offset = place-at body p (later start offset) .azimuth
+azimuth-at body p start offset = azimuth-numbers (place-at body p (later start offset) .azimuth) .entry
 
 abbrev pub elevation-at : Body → Point → Instant → ℕ → ℤ
 elevation-at body p start offset = place-at body p (later start offset) .elevation
 
+-- THE CLAIM, for every entry: the mark stands there exactly where the place has no azimuth
+abbrev pub EveryMarkTells : Type 0
+EveryMarkTells = (body : Body) (p : Point) (start : Instant) (offset : ℕ) → (azimuth-at body p start offset ≡ mark) ↔ (place-at body p (later start offset) .azimuth ≡ None)
+
 -- the same from where a runner stands, who is worked out once
 abbrev pub azimuth-from : Body → Runner → Instant → ℕ → ℤ
-azimuth-from body runner start offset = place-from body runner (later start offset) .azimuth
+azimuth-from body runner start offset = azimuth-numbers (place-from body runner (later start offset) .azimuth) .entry
 
 abbrev pub elevation-from : Body → Runner → Instant → ℕ → ℤ
 elevation-from body runner start offset = place-from body runner (later start offset) .elevation

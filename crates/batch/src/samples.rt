@@ -1,4 +1,6 @@
 // A batch of places into two lent buffers: nothing is written before every offset is judged.
+use arctangent::direction::MARK;
+use arctangent::direction::angle_or;
 use calendar::refusal::Refusal;
 use calendar::refusal::Verdict;
 use calendar::refusal::or_else;
@@ -79,7 +81,7 @@ fn later(start: Instant, offset: u32) -> Instant
     moved(start, offset as i64)
 }
 
-// Entry i is the place at offset i. Every instant is accepted and both buffers are long enough.
+// Entry i is the place at offset i, and the mark stands for an absent azimuth. Every instant is accepted and both buffers are long enough.
 fn fill(
     table: &[u32; 361],
     body: Body,
@@ -97,7 +99,8 @@ fn fill(
     let mut i = 0;
     while i < offsets.len() {
         let place = place_from(table, body, runner, later(start, offsets[i]));
-        let azimuth = place.azimuth;
+        let towards = place.azimuth;
+        let azimuth = angle_or(MARK, towards);
         let elevation = place.elevation;
         azimuths[i] = azimuth;
         elevations[i] = elevation;

@@ -1,7 +1,24 @@
--- The answers to a day as C is handed them.
+-- Answers as C is handed them.
+use mathlib.Core.Bool.{Bool, cond}
 use mathlib.Core.List.{List, [], _∷_}
 use Prim.Native.Nat.{ℕ}
+use lib.Ieee.{Float}
+use lib.IntN.{ℤ}
 use Rattle.day.specs.Answer.{RiseSetNumbers}
+use Rattle.sky.specs.Answer.{PlaceNumbers}
+use Rattle.sky.specs.declared.shown.Shown.{Shown}
+
+-- 1 where there is something, and 0 where there is none
+abbrev pub flag : Bool → ℕ
+flag there = cond there 1 0
+
+-- beside its flag: azimuth and elevation
+abbrev pub place-values : PlaceNumbers → List ℤ
+place-values p = p .azimuth ∷ p .elevation ∷ []
+
+-- beside its flag: azimuth, elevation and refraction
+abbrev pub shown-values : Shown → List Float
+shown-values p = p .azimuth ∷ p .elevation ∷ p .refraction ∷ []
 
 -- a flag and a minute for the rise, then for the set
 abbrev pub rise-set-values : RiseSetNumbers → List ℕ

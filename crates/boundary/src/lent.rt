@@ -1,11 +1,17 @@
 // What is written behind a reference to an array, whole: the logic is not told how long the list behind such a reference is.
+use arctangent::direction::angle_or;
+use arctangent::direction::is_there;
 use day::answer::RiseSet;
 use day::crossing::Crossing;
+use sky::shown::Shown;
+use sky_vectors::place::Place;
 ghost use mathlib.Core.List.{[], _∷_};
 ghost use mathlib.Core.Path.{_≡_};
 ghost use Rattle.day.specs.Answer.{rise-set-numbers};
 ghost use Rattle.day.specs.Crossing.{crossing-numbers};
-ghost use Rattle.boundary.specs.Lent.{rise-set-values};
+ghost use Rattle.sky.specs.Answer.{place-numbers};
+ghost use Rattle.sky_vectors.specs.Place.{InTurns};
+ghost use Rattle.boundary.specs.Lent.{flag, place-values, rise-set-values, shown-values};
 
 pub fn put_pair(pair: &mut [i64; 2], first: i64, second: i64)
     ensures { λ _. ⌜ now (pair .exit) ≡ first ∷ second ∷ [] ⌝ }
@@ -31,10 +37,31 @@ pub fn put_four(four: &mut [i64; 4], first: i64, second: i64, third: i64, fourth
     *four = [first, second, third, fourth];
 }
 
-pub fn put_doubles(triple: &mut [f64; 3], first: f64, second: f64, third: f64)
-    ensures { λ _. ⌜ now (triple .exit) ≡ first ∷ second ∷ third ∷ [] ⌝ }
+// 1 where there is something, and 0 where there is none.
+fn flag(there: bool) -> u32
+    ensures { λ r. ⌜ r ≡ flag there ⌝ }
 {
-    *triple = [first, second, third];
+    if there { 1 } else { 0 }
+}
+
+// The flag of the azimuth, azimuth and elevation.
+pub fn put_place(has_azimuth: &mut u32, pair: &mut [i64; 2], seen: Place)
+    requires { ⌜ InTurns seen ⌝ }
+    ensures { λ _. ⌜ now («has_azimuth» .exit) ≡ flag (place-numbers seen .has-azimuth) ⌝ }
+    ensures { λ _. ⌜ now (pair .exit) ≡ place-values (place-numbers seen) ⌝ }
+{
+    let azimuth = seen.azimuth;
+    *has_azimuth = flag(is_there(azimuth));
+    *pair = [angle_or(0, azimuth), seen.elevation];
+}
+
+// The flag of the azimuth, azimuth, elevation and refraction.
+pub fn put_shown(has_azimuth: &mut u32, triple: &mut [f64; 3], seen: Shown)
+    ensures { λ _. ⌜ now («has_azimuth» .exit) ≡ flag (seen .«has_azimuth») ⌝ }
+    ensures { λ _. ⌜ now (triple .exit) ≡ shown-values seen ⌝ }
+{
+    *has_azimuth = flag(seen.has_azimuth);
+    *triple = [seen.azimuth, seen.elevation, seen.refraction];
 }
 
 // 1 where there is a minute, and 0 where there is none.

@@ -1,5 +1,5 @@
 -- The exports over a request: 01's answers, as C is handed them. A refused call gives its number and writes nothing.
-use mathlib.Core.Bool.{cond}
+use mathlib.Core.Bool.{Bool, cond}
 use mathlib.Core.List.{List, [], _∷_}
 use Prim.Native.Nat.{ℕ}
 use lib.Dec.{eqb}
@@ -8,14 +8,14 @@ use lib.IntN.{pos, ℤ}
 use lib.ListN.{length}
 use Rattle.calendar.specs.Refusal.{first}
 use Rattle.sum_rules.specs.declared.instant.Instant.{Instant}
-use Rattle.sky.specs.Answer.{Answer, judged, nowhere, place, shown-place}
+use Rattle.sky.specs.Answer.{Answer, PlaceNumbers, judged, nowhere, place, shown-place}
 use Rattle.batch.specs.Batch.{BatchAnswer, azimuth-at, batch, elevation-at, left-in}
 use Rattle.request.specs.Request.{instant, start-from, start-refusals}
 use Rattle.sky.specs.Shown.{nothing-shown}
 use Rattle.sky.specs.declared.shown.Shown.{Shown}
-use Rattle.sky_vectors.specs.declared.place.Place.{Place}
 use Rattle.boundary.specs.Codes.{air-of, body-of, body-refusal, code-refusal}
 use Rattle.boundary.specs.Given.{point-from}
+use Rattle.boundary.specs.Lent.{flag}
 
 -- what stands behind a reference after the call: the value, or what stood there where refused
 abbrev pub written-one : {A : Type 0} → ℕ → A → A → A
@@ -25,23 +25,21 @@ written-one refusal value before = cond (eqb refusal 0) value before
 abbrev pub written : {A B : Type 0} → (A → List B) → Answer A → List B → List B
 written values answer before = written-one (answer .refusal) (values (answer .value)) before
 
+-- the same of a flag
+abbrev pub written-flag : ℕ → Bool → ℕ → ℕ
+written-flag refusal there before = written-one refusal (flag there) before
+
 -- the refusal of a code, with zeros, or the answer to the request
 abbrev pub formed : {A : Type 0} → ℕ → A → Answer A → Answer A
 formed refusal zeros answer = cond (eqb refusal 0) answer (record { refusal = refusal; value = zeros })
 
-abbrev pub coded-place : List ℤ → ℕ → List ℤ → ℕ → Float → Float → Answer Place
+abbrev pub coded-place : List ℤ → ℕ → List ℤ → ℕ → Float → Float → Answer PlaceNumbers
 coded-place start body point air pressure temperature =
     formed (code-refusal body air) nowhere (place (start-from start) (body-of body) (point-from point) (air-of air pressure temperature))
-
-abbrev pub place-values : Place → List ℤ
-place-values p = p .azimuth ∷ p .elevation ∷ []
 
 abbrev pub coded-shown-place : List ℤ → ℕ → List ℤ → ℕ → Float → Float → Answer Shown
 coded-shown-place start body point air pressure temperature =
     formed (code-refusal body air) nothing-shown (shown-place (start-from start) (body-of body) (point-from point) (air-of air pressure temperature))
-
-abbrev pub shown-values : Shown → List Float
-shown-values p = p .azimuth ∷ p .elevation ∷ p .refraction ∷ []
 
 abbrev pub coded-batch : List ℤ → ℕ → List ℤ → List ℕ → List ℤ → List ℤ → BatchAnswer
 coded-batch start body point offsets azimuths elevations =

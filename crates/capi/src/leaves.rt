@@ -1,11 +1,13 @@
 // Day counts, sines, arctangents and roots.
+use arctangent::direction::MARK;
+use arctangent::direction::angle_or;
 use calendar::day_count::DayCount;
 use calendar::refusal::number_of;
 ghost use mathlib.Core.Path.{_≡_};
-ghost use lib.IntN.{pos};
 ghost use Rattle.number_rules.specs.Calendar.{day-count};
 ghost use Rattle.number_rules.specs.Sine.{sine, cosine};
 ghost use Rattle.arctangent.specs.Arctangent.{arctangent};
+ghost use Rattle.arctangent.specs.Direction.{angle-or, mark};
 ghost use Rattle.numbers.specs.Root.{root};
 ghost use Rattle.capi.specs.Answers.{written-one};
 
@@ -38,12 +40,12 @@ pub extern "C" fn raddlehue_cosine(angle: i64) -> i64
     numbers::sine::cosine(angle)
 }
 
-// An angle that callers subtract is signed.
+// An angle that callers subtract is signed; no direction is the mark.
 #[no_mangle]
 pub extern "C" fn raddlehue_arctangent(y: i64, x: i64) -> i64
-    ensures { λ r. ⌜ r ≡ pos (arctangent y x) ⌝ }
+    ensures { λ r. ⌜ r ≡ angle-or mark (arctangent y x) ⌝ }
 {
-    arctangent::direction::arctangent(y, x).units as i64
+    angle_or(MARK, arctangent::direction::arctangent(y, x))
 }
 
 #[no_mangle]

@@ -92,6 +92,7 @@ fn shown_in(air: Air) -> Shown {
     match answer {
         ShownAnswer::Seen(shown) => shown,
         ShownAnswer::Refused(_) => Shown {
+            has_azimuth: false,
             azimuth: 0.0,
             elevation: 0.0,
             refraction: 0.0,

@@ -6,6 +6,8 @@ use super::report::write;
 use super::steps::from_south_pole;
 use super::steps::moment_of;
 use super::steps::steps_to;
+use arctangent::direction::MARK;
+use arctangent::direction::angle_or;
 use earth::nutation::Nutation;
 use numbers::sine_table::table;
 use refraction::air::Air;
@@ -99,13 +101,15 @@ fn equator(body: Geocentric, orientation: Orientation) {
     };
     let fixed = from_south_pole(body, unturned);
     let turned = from_south_pole(body, orientation);
+    let alpha = fixed.azimuth;
+    let alpha_turned = turned.azimuth;
     compared(
         b" nu+sigma alpha delta H",
         [
             orientation.sidereal,
-            fixed.azimuth,
+            angle_or(MARK, alpha),
             fixed.elevation,
-            turned.azimuth,
+            angle_or(MARK, alpha_turned),
             0,
         ],
         [21_333_331_000, 20_222_741_000, 931_434_000, TURN_LESS_H, 0],

@@ -10,13 +10,12 @@ use lib.IntN.{ℤ}
 use lib.ListN.{length}
 use Rattle.text.specs.Decimal.{decimals}
 use Rattle.text.specs.Line.{answer, space}
-use Rattle.sky.specs.Answer.{place}
+use Rattle.sky.specs.Answer.{PlaceNumbers, place}
 use Rattle.line_answers.specs.BodyLine.{longest-request, point-from}
-use Rattle.line_answers.specs.PlacesLine.{body-answer, no-request, place-from, place-line, places-answer}
+use Rattle.line_answers.specs.PlacesLine.{azimuth-text, body-answer, no-request, place-from, place-line, places-answer}
 use Rattle.line_answers.specs.Printed.{newline}
 use Rattle.request.specs.Request.{start-from}
 use Rattle.refraction.specs.declared.air.Air.the-variants as Airs
-use Rattle.sky_vectors.specs.declared.place.Place.{Place}
 use Rattle.sky_vectors.specs.declared.geocentric.Body.{Body}
 use Rattle.line_answers.proofs.BodyLineLaws.{long-numbers, padded-point, too-long}
 use Rattle.line_answers.proofs.SheetLaws.{padded-start}
@@ -43,9 +42,7 @@ unfolding places-answer
 too-long-places line h = too-long body-answer no-request long-body line h
 
 -- two angles, each with the byte after it
-abbrev pub angles : ℤ → ℤ → List ℕ
-angles azimuth elevation = (decimals azimuth ++ space ∷ []) ++ (decimals elevation ++ newline ∷ [])
-
-pub angles-line : (seen : Place) → angles (seen .azimuth) (seen .elevation) ≡ place-line seen
+pub angles-line : (seen : PlaceNumbers)
+    → (azimuth-text (seen .has-azimuth) (seen .azimuth) ++ space ∷ []) ++ (decimals (seen .elevation) ++ newline ∷ []) ≡ place-line seen
 unfolding place-line
 angles-line seen = simp append-assoc

@@ -5,6 +5,7 @@ use super::body_line::body_numbers;
 use super::body_line::point_from;
 use super::refused::refusal_text;
 use super::sheet::start_from;
+use arctangent::direction::Direction;
 use calendar::refusal::Refusal;
 use refraction::air::Air;
 use sky::answer::PlaceAnswer;
@@ -13,15 +14,18 @@ use sky_vectors::geocentric::Body;
 use sky_vectors::place::Place;
 use text::decimal::Text;
 use text::decimal::appended_byte;
+use text::decimal::appended_bytes;
 use text::decimal::appended_decimals;
+use text::decimal::appended_units;
 use text::decimal::empty;
 ghost use mathlib.Core.Path.{_≡_};
-ghost use Prim.Native.Nat.{_≤_};
+ghost use Prim.Native.Nat.{_+_, _≤_};
 ghost use lib.ListN.{length, drop};
-ghost use Rattle.text.specs.Decimal.{text-room, written};
+ghost use Rattle.text.specs.Decimal.{Appended, text-room, written};
 ghost use Rattle.calendar.specs.Refusal.{OneAnswer};
-ghost use Rattle.sky.specs.Answer.{place-answer};
-ghost use Rattle.line_answers.specs.PlacesLine.{body-answer, places-answer, place-line, places-line};
+ghost use Rattle.arctangent.specs.Direction.{azimuth-numbers};
+ghost use Rattle.sky.specs.Answer.{place-answer, place-numbers};
+ghost use Rattle.line_answers.specs.PlacesLine.{azimuth-text, body-answer, places-answer, place-line, places-line};
 
 // The place of a body by the numbers from here to the end of the line.
 fn body_answer(body: Body, line: &[u8], start: usize) -> PlaceAnswer
@@ -46,11 +50,24 @@ pub fn places_answer(line: &[u8]) -> PlaceAnswer
     }
 }
 
+// The azimuth, or the word for none.
+fn appended_azimuth(text: Text, azimuth: Direction) -> Text
+    requires { ⌜ text .length + 21 ≤ text-room ⌝ }
+    ensures { λ r. ⌜ Appended text (azimuth-text (azimuth-numbers azimuth .has) (azimuth-numbers azimuth .single)) r ⌝ }
+    ensures { λ r. ⌜ r .length ≤ text .length + 22 ⌝ }
+{
+    match azimuth {
+        Direction::Towards(angle) => appended_units(text, angle.units),
+        Direction::None => appended_bytes(text, b"none"),
+    }
+}
+
 fn place_text(place: Place) -> Text
-    ensures { λ r. ⌜ written r ≡ place-line place ⌝ }
+    ensures { λ r. ⌜ written r ≡ place-line (place-numbers place) ⌝ }
     ensures { λ r. ⌜ r .length ≤ text-room ⌝ }
 {
-    let azimuth = appended_byte(appended_decimals(empty(), place.azimuth), b' ');
+    let towards = place.azimuth;
+    let azimuth = appended_byte(appended_azimuth(empty(), towards), b' ');
     appended_byte(appended_decimals(azimuth, place.elevation), b'\n')
 }
 

@@ -1,4 +1,4 @@
--- How large a sine is: at most 10⁹ + 1, which sine 8,999,869,268 takes. And the sine and the cosine of one angle together: at most 1.423·10⁹.
+-- How large a sine is: at most 10⁹ + 1, which sine 8,999,869,268 takes. And the sine and the cosine of one angle together: 0.9999·10⁹ to 1.423·10⁹.
 use mathlib.Core.Bool.{Bool, _&&_, _||_, false, true}
 use mathlib.Core.Path.{_∙_, _≡_, ap, refl, subst, subst⁻¹}
 use Prim.Native.Nat.{_%_, _*_, _+_, _-_, _/_, _<_, _≤_, ℕ}
@@ -14,7 +14,7 @@ use Rattle.arithmetic.proofs.Sizes.{abs-neg}
 use Rattle.arithmetic.proofs.Table.{at, every}
 use Rattle.number_rules.specs.Angle.{full-turn, half-turn, quarter-turn, reduced}
 use Rattle.number_rules.specs.Sine.{cosine, entry, fold, half-fold, negated-from-half, quarter-sine, radians, rest-cosine, rest-sine, sine, sine-at}
-use Rattle.number_rules.specs.SineAccuracy.{SineSize}
+use Rattle.number_rules.specs.SineAccuracy.{SineOrCosine, SineSize}
 use Rattle.number_rules.specs.SineTable.{sines}
 use Rattle.number_rules.proofs.SineLaws.{cosine-is, fold-high, fold-low, fold-most, half-high, half-low, reduced-below, sign-high, sign-low}
 use Rattle.number_rules.proofs.SineSteps.{radians-most, rest-cosine-most, rest-sine-most, square-most}
@@ -164,8 +164,20 @@ above-entry y h =
     floored : (e p q : ℕ) → p ≤ e * 1_000_000_000 → q ≤ 1_000_000_000 * 4_363_323 → (p + q) / 1_000_000_000 ≤ e + 4_363_323
     floored e p q a b = omega arith
 
+below-entry : (y : ℕ) → y ≤ quarter-turn → entry (y / 25_000_000) ≤ quarter-sine y + 10_000
+unfolding quarter-sine
+below-entry y h =
+    let r = radians (y % 25_000_000) in
+    let k = y / 25_000_000 in
+    let falls : r * r / 2_000_000_000 ≤ 9_999 = omega (arith, square-most r (radians-most y)) in
+    floored (entry k) (r * r / 2_000_000_000) (rest-cosine r) (entry (360 - k) * rest-sine r) (omega (arith, falls)) (mul-le-mul (entry-small k (omega arith)) falls)
+  where
+    floored : (e s c q : ℕ) → c + s ≡ 1_000_000_000 → e * s ≤ 1_000_000_000 * 9_999 → e ≤ (e * c + q) / 1_000_000_000 + 10_000
+    floored e s c q t l = omega (arith, ap (λ (n : ℕ). e * n) t, l)
+
+-- together neither too large nor too small
 abbrev fits-both : ℕ → ℕ → Bool
-fits-both e f = leb (e + 4_363_323 + (f + 4_363_323)) 1_423_000_000
+fits-both e f = leb (e + 4_363_323 + (f + 4_363_323)) 1_423_000_000 && leb 999_920_000 (e + f)
 
 pair-test : ℕ → ℕ → Bool
 pair-test k e = fits-both e (entry (360 - k)) && fits-both e (entry (359 - k))
@@ -178,7 +190,10 @@ pair-at : (k : ℕ) → k ≤ 360 → T (fits-both (entry k) (entry (360 - k)) &
 unfolding pair-test sines
 pair-at k h = at pair-test 0 sines pair-tested k (omega arith)
 
-quarter-pair : (y : ℕ) → y ≤ quarter-turn → quarter-sine y + quarter-sine (quarter-turn - y) ≤ 1_423_000_000
+abbrev Together : ℕ → Type 0
+Together n = (999_900_000 ≤ n) × (n ≤ 1_423_000_000)
+
+quarter-pair : (y : ℕ) → y ≤ quarter-turn → Together (quarter-sine y + quarter-sine (quarter-turn - y))
 quarter-pair y h = go (ℕ-discrete ((quarter-turn - y) / 25_000_000) (360 - k))
   where
     k : ℕ
@@ -187,20 +202,31 @@ quarter-pair y h = go (ℕ-discrete ((quarter-turn - y) / 25_000_000) (360 - k))
     both : T (fits-both (entry k) (entry (360 - k)) && fits-both (entry k) (entry (359 - k)))
     both = pair-at k (omega arith)
 
-    joined : (j : ℕ) → (quarter-turn - y) / 25_000_000 ≡ j → T (fits-both (entry k) (entry j)) → quarter-sine y + quarter-sine (quarter-turn - y) ≤ 1_423_000_000
+    joined : (j : ℕ) → (quarter-turn - y) / 25_000_000 ≡ j → T (fits-both (entry k) (entry j)) → Together (quarter-sine y + quarter-sine (quarter-turn - y))
     joined j e t =
-        let low : quarter-sine (quarter-turn - y) ≤ entry j + 4_363_323 = rw e at (above-entry (quarter-turn - y) (omega arith)) in
-        omega (arith, above-entry y h, leb→le (entry k + 4_363_323 + (entry j + 4_363_323)) 1_423_000_000 t)
+        let most : quarter-sine (quarter-turn - y) ≤ entry j + 4_363_323 = rw e at (above-entry (quarter-turn - y) (omega arith)) in
+        let least : entry j ≤ quarter-sine (quarter-turn - y) + 10_000 = rw e at (below-entry (quarter-turn - y) (omega arith)) in
+        let fit = and-yes (leb (entry k + 4_363_323 + (entry j + 4_363_323)) 1_423_000_000) (leb 999_920_000 (entry k + entry j)) t in (
+          omega (arith, below-entry y h, least, leb→le 999_920_000 (entry k + entry j) (fit .1)),
+          omega (arith, above-entry y h, most, leb→le (entry k + 4_363_323 + (entry j + 4_363_323)) 1_423_000_000 (fit .0)),
+        )
 
-    go : Dec ((quarter-turn - y) / 25_000_000 ≡ 360 - k) → quarter-sine y + quarter-sine (quarter-turn - y) ≤ 1_423_000_000
+    go : Dec ((quarter-turn - y) / 25_000_000 ≡ 360 - k) → Together (quarter-sine y + quarter-sine (quarter-turn - y))
     go (yes e) = joined (360 - k) e (and-yes (fits-both (entry k) (entry (360 - k))) _ both .0)
     go (no f) = joined (359 - k) (omega arith) (and-yes (fits-both (entry k) (entry (360 - k))) _ both .1)
 
-pub pair-most : (x : ℤ) → natAbs (sine x) + natAbs (cosine x) ≤ 1_423_000_000
+pair-together : (x : ℤ) → Together (natAbs (sine x) + natAbs (cosine x))
 unfolding sine sine-at
-pair-most x =
+pair-together x =
     let a = reduced x in
     let s = sign-size a (quarter-sine (fold a)) in
     let c : natAbs (cosine x) ≡ quarter-sine (quarter-turn - fold a) =
     ap natAbs (cosine-is x) ∙ sign-size ((a + quarter-turn) % full-turn) (quarter-sine (fold ((a + quarter-turn) % full-turn))) ∙ ap quarter-sine (fold-on a (reduced-below x)) in
-    omega (arith, quarter-pair (fold a) (fold-most a (reduced-below x)))
+    let both = quarter-pair (fold a) (fold-most a (reduced-below x)) in
+    (omega (arith, both .0), omega (arith, both .1))
+
+pub pair-most : (x : ℤ) → natAbs (sine x) + natAbs (cosine x) ≤ 1_423_000_000
+pair-most x = pair-together x .1
+
+pub pair-least : SineOrCosine
+pair-least x = pair-together x .0

@@ -2,14 +2,14 @@
 use mathlib.Core.Path.{_≡_, subst⁻¹}
 use lib.IntN.{ℤ}
 use Rattle.number_rules.specs.Sine.{cosine, sine}
-use Rattle.number_rules.proofs.SineSize.{cosine-most, pair-most, sine-most}
+use Rattle.number_rules.proofs.SineSize.{cosine-most, pair-least, pair-most, sine-most}
 use Rattle.numbers.specs.SineCosine.{OneAngle, sine-cosine}
 use Rattle.numbers.specs.declared.sine.SineCosine.{SineCosine}
 use Rattle.numbers.proofs.Machine.{Mirror, field}
 
 pub one-angle : (x : ℤ) → OneAngle (sine-cosine x)
 unfolding sine-cosine
-one-angle x = record { sine-size = sine-most x; cosine-size = cosine-most x; together = pair-most x }
+one-angle x = record { sine-size = sine-most x; cosine-size = cosine-most x; together = pair-most x; not-both-zero = pair-least x }
 
 -- what a call of `sine_cosine_in` gave
 pub gave-sine-cosine : (x : ℤ) {r : SineCosine} → (r .sine ≡ sine x) × (r .cosine ≡ cosine x) → r ≡ sine-cosine x

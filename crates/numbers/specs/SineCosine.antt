@@ -7,8 +7,9 @@ use Rattle.numbers.specs.declared.sine.SineCosine.{SineCosine}
 unfoldable pub sine-cosine : ℤ → SineCosine
 sine-cosine x = record { sine = sine x; cosine = cosine x }
 
--- what any of them keep to: |sin| + |cos| of one angle is at most 1.423 times 10⁹
+-- what any of them keep to: |sin| + |cos| of one angle is at least 0.9999 and at most 1.423 times 10⁹
 pub record OneAngle (angle : SineCosine) : Type 0 where
   pub sine-size : natAbs (angle .sine) ≤ 1_000_000_001
   pub cosine-size : natAbs (angle .cosine) ≤ 1_000_000_001
   pub together : natAbs (angle .sine) + natAbs (angle .cosine) ≤ 1_423_000_000
+  pub not-both-zero : 999_900_000 ≤ natAbs (angle .sine) + natAbs (angle .cosine)

@@ -1,13 +1,21 @@
 -- What an answer's refusal tells of it, and that a place or a shown place is told from any other by its numbers.
 use mathlib.Core.Bool.{Bool, cond, true, false}
-use mathlib.Core.Path.{_∙_, _≡_, ap, refl, sym}
+use mathlib.Core.Path.{_∙_, _≡_, ap, refl, subst⁻¹, sym}
 use Prim.Native.Nat.{ℕ}
 use lib.Dec.{eqb}
 use borrow.Author.Tests.{eq-eqb, eqb-true, ne-eqb}
-use Rattle.calendar.specs.Refusal.{OneAnswer}
+use Rattle.calendar.specs.Refusal.{OneAnswer, first}
 use Rattle.calendar.proofs.RefusalLaws.{never-none, number-tells, one-answer}
+use Rattle.refraction.specs.declared.air.Air.{Air}
+use Rattle.request.specs.Request.{instant}
+use Rattle.request.specs.declared.start.Start.{Start}
+use Rattle.sky_vectors.proofs.PlaceLaws.{place-at-in-turns}
+use Rattle.sky_vectors.specs.Place.{InTurns, place-at}
+use Rattle.sky_vectors.specs.declared.geocentric.Body.{Body}
 use Rattle.sky_vectors.specs.declared.place.Place.{Place}
-use Rattle.sky.specs.Answer.{Answer, judged, place-answer, shown-answer}
+use Rattle.sky_vectors.specs.declared.station.Point.{Point}
+use Rattle.arctangent.proofs.ArctangentLaws.{direction-tells}
+use Rattle.sky.specs.Answer.{Answer, PlaceNumbers, judged, nowhere, place, place-answer, place-numbers, request-refusals, shown-answer}
 use Rattle.sky.specs.declared.answer.PlaceAnswer.{PlaceAnswer}
 use Rattle.sky.specs.declared.answer.PlaceAnswer.the-variants as Places
 use Rattle.sky.specs.declared.answer.ShownAnswer.{ShownAnswer}
@@ -36,14 +44,35 @@ module _ {A : Type 0} (refusal : ℕ) (zeros value : A) where
       let none : refusal ≡ 0 = sym (judged-refusal refusal zeros value) ∙ sym (ap (λ (a : Answer A). a .refusal) e) in
       (none, ap (λ (a : Answer A). a .value) (e ∙ judged-value refusal zeros value none))
 
-place-tells : (x y : PlaceAnswer) → place-answer x ≡ place-answer y → x ≡ y
-place-tells (Places.Seen p) (Places.Seen q) same = ap (λ (a : Answer Place). Places.Seen (a .value)) same
-place-tells (Places.Seen p) (Places.Refused r) same = absurd (never-none r (sym (ap (λ (a : Answer Place). a .refusal) same)))
-place-tells (Places.Refused r) (Places.Seen p) same = absurd (never-none r (ap (λ (a : Answer Place). a .refusal) same))
-place-tells (Places.Refused r) (Places.Refused s) same = ap Places.Refused (number-tells r s (ap (λ (a : Answer Place). a .refusal) same))
+pub numbers-tell : (p q : Place) → place-numbers p ≡ place-numbers q → p ≡ q
+numbers-tell p q same =
+    let azimuth = direction-tells (p .azimuth) (q .azimuth) (ap (λ (n : PlaceNumbers). n .has-azimuth) same) (ap (λ (n : PlaceNumbers). n .azimuth) same) in
+    λ i. record { azimuth = azimuth i; elevation = ap (λ (n : PlaceNumbers). n .elevation) same i }
 
-pub one-place : {found : PlaceAnswer} {rule : Answer Place} → place-answer found ≡ rule → OneAnswer place-answer rule found
+place-tells : (x y : PlaceAnswer) → place-answer x ≡ place-answer y → x ≡ y
+place-tells (Places.Seen p) (Places.Seen q) same = ap Places.Seen (numbers-tell p q (ap (λ (a : Answer PlaceNumbers). a .value) same))
+place-tells (Places.Seen p) (Places.Refused r) same = absurd (never-none r (sym (ap (λ (a : Answer PlaceNumbers). a .refusal) same)))
+place-tells (Places.Refused r) (Places.Seen p) same = absurd (never-none r (ap (λ (a : Answer PlaceNumbers). a .refusal) same))
+place-tells (Places.Refused r) (Places.Refused s) same = ap Places.Refused (number-tells r s (ap (λ (a : Answer PlaceNumbers). a .refusal) same))
+
+pub one-place : {found : PlaceAnswer} {rule : Answer PlaceNumbers} → place-answer found ≡ rule → OneAnswer place-answer rule found
 one-place = one-answer place-tells
+
+-- a place that is answered: nothing refuses it, it is the rule's, and it is in turns
+module _ (start : Start) (body : Body) (point : Point) (air : Air) (found : Place)
+    (same : record { refusal = 0; value = place-numbers found } ≡ place start body point air) where
+  passed : (first (request-refusals start point air) ≡ 0) × (place-numbers found ≡ place-numbers (place-at body point (instant start)))
+  unfolding place
+  passed = not-refused (first (request-refusals start point air)) nowhere (place-numbers (place-at body point (instant start))) same
+
+  pub place-passes : first (request-refusals start point air) ≡ 0
+  place-passes = passed .0
+
+  pub place-found : found ≡ place-at body point (instant start)
+  place-found = numbers-tell found (place-at body point (instant start)) (passed .1)
+
+  pub found-in-turns : InTurns found
+  found-in-turns = subst⁻¹ InTurns place-found (place-at-in-turns body point (instant start))
 
 shown-tells : (x y : ShownAnswer) → shown-answer x ≡ shown-answer y → x ≡ y
 shown-tells (Shows.Seen p) (Shows.Seen q) same = ap (λ (a : Answer Shown). Shows.Seen (a .value)) same

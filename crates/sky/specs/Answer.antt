@@ -1,9 +1,10 @@
 -- The answers to a request for a place (01, "A request and its numbered refusals"): a refused answer of any kind carries the number and zeros elsewhere.
-use mathlib.Core.Bool.{cond}
+use mathlib.Core.Bool.{Bool, cond, false}
 use mathlib.Core.List.{List, _++_}
 use Prim.Native.Nat.{ℕ}
 use lib.Dec.{eqb}
-use lib.IntN.{pos}
+use lib.IntN.{pos, ℤ}
+use Rattle.arctangent.specs.Direction.{azimuth-numbers}
 use Rattle.refraction.specs.Air.{air-refusals}
 use Rattle.sky_vectors.specs.Place.{place-at}
 use Rattle.calendar.specs.Refusal.{first, number}
@@ -25,11 +26,22 @@ pub record Answer (A : Type 0) : Type 0 where
   pub refusal : ℕ
   pub value : A
 
-abbrev pub nowhere : Place
-nowhere = record { azimuth = pos 0; elevation = pos 0 }
+-- a place: whether it has an azimuth, the azimuth, and the elevation
+pub record PlaceNumbers : Type 0 where
+  pub has-azimuth : Bool
+  pub azimuth : ℤ
+  pub elevation : ℤ
 
-abbrev pub place-answer : PlaceAnswer → Answer Place
-place-answer (Places.Seen place) = record { refusal = 0; value = place }
+abbrev pub place-numbers : Place → PlaceNumbers
+place-numbers place =
+    let azimuth = azimuth-numbers (place .azimuth) in
+    record { has-azimuth = azimuth .has; azimuth = azimuth .single; elevation = place .elevation }
+
+abbrev pub nowhere : PlaceNumbers
+nowhere = record { has-azimuth = false; azimuth = pos 0; elevation = pos 0 }
+
+abbrev pub place-answer : PlaceAnswer → Answer PlaceNumbers
+place-answer (Places.Seen place) = record { refusal = 0; value = place-numbers place }
 place-answer (Places.Refused refusal) = record { refusal = number refusal; value = nowhere }
 
 abbrev pub shown-answer : ShownAnswer → Answer Shown
@@ -44,8 +56,8 @@ request-refusals start point air = start-refusals start ++ (point-refusals point
 abbrev pub judged : {A : Type 0} → ℕ → A → A → Answer A
 judged refusal zeros value = cond (eqb refusal 0) (record { refusal = 0; value = value }) (record { refusal = refusal; value = zeros })
 
-unfoldable pub place : Start → Body → Point → Air → Answer Place
-place start body point air = judged (first (request-refusals start point air)) nowhere (place-at body point (instant start))
+unfoldable pub place : Start → Body → Point → Air → Answer PlaceNumbers
+place start body point air = judged (first (request-refusals start point air)) nowhere (place-numbers (place-at body point (instant start)))
 
 unfoldable pub shown-place : Start → Body → Point → Air → Answer Shown
 shown-place start body point air =

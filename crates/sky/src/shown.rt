@@ -1,4 +1,6 @@
 // The place as it is shown, in degrees.
+use arctangent::direction::angle_or;
+use arctangent::direction::is_there;
 use refraction::air::Air;
 use refraction::formula::refraction;
 use sky_vectors::place::Place;
@@ -10,8 +12,9 @@ ghost use Rattle.number_rules.specs.SineTable.{sines};
 ghost use Rattle.sky_vectors.specs.Place.{InTurns};
 ghost use Rattle.sky.specs.Shown.{degrees, shown};
 
-// The elevation has the refraction in it.
+// The elevation has the refraction in it. Where there is no azimuth, it is 0.
 pub struct Shown {
+    pub has_azimuth: bool,
     pub azimuth: f64,
     pub elevation: f64,
     pub refraction: f64,
@@ -29,11 +32,12 @@ pub fn shown_at(table: &[u32; 361], air: Air, place: Place) -> Shown
     requires { ⌜ (now table ≡ sines) × InTurns place ⌝ }
     ensures { λ r. ⌜ r ≡ shown air place ⌝ }
 {
-    let a = place.azimuth;
+    let azimuth = place.azimuth;
     let e = place.elevation;
     let refraction = refraction(table, air, e);
     Shown {
-        azimuth: degrees(a),
+        has_azimuth: is_there(azimuth),
+        azimuth: degrees(angle_or(0, azimuth)),
         elevation: degrees(e) + refraction,
         refraction,
     }

@@ -9,7 +9,7 @@ use lib.Signed.{_≤ℤ_, ltZ}
 use Rattle.numbers.proofs.Machine.{lit, not-less}
 use Rattle.number_rules.specs.Angle.{quarter-turn}
 use Rattle.numbers.specs.declared.sine.SineCosine.{SineCosine}
-use Rattle.arctangent.proofs.ArctangentLaws.{arctangent-below}
+use Rattle.arctangent.proofs.ArctangentLaws.{arctangent-reduced}
 use Rattle.sky_vectors.specs.Horizon.{azimuth, clamped, elevation, horizon, level, lowered, slope}
 use Rattle.sky_vectors.specs.Place.{EveryPlaceInTurns, InTurns, direction, place-at, place-from, place-towards}
 use Rattle.sky_vectors.specs.Station.{runner}
@@ -40,8 +40,7 @@ unfolding place-towards azimuth elevation
 place-towards-in-turns φ v =
     let h = horizon φ v in
     record {
-      azimuth-natural = refl;
-      azimuth-below = arctangent-below (h .east) (h .north);
+      azimuth-reduced = arctangent-reduced (h .east) (h .north);
       elevation-size = clamped-most (lowered (slope (h .up) (level h)));
     }
 

@@ -67,7 +67,7 @@ meridian-small {θ} {vector} one small =
 observer-small : {φ : SineCosine} (height : ℤ) → OneAngle φ → natAbs height ≤ highest-height → SmallObserver (observer φ height)
 unfolding observer
 observer-small {φ} height one low =
-    let w = flattened φ in
+    let w = pos (flattened φ) in
     let by-cosine = floored-most height (φ .cosine) radius low (one .cosine-size) in
     let by-sine = floored-most height (φ .sine) radius low (one .sine-size) in
     let flat = floored-most polar (sine w) 100_000_000 {m = 99_664_719} (lit≤ tt) (sine-most w) in

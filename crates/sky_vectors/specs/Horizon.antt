@@ -1,11 +1,11 @@
 -- Up, north and east, and their angles (01, "From the centre to the runner").
 use mathlib.Core.Bool.{cond}
-use Prim.Native.Nat.{_+_}
-use lib.Dec.{eqb}
 use lib.IntN.{_*ℤ_, _+ℤ_, _-ℤ_, natAbs, pos, ℤ}
 use lib.Signed.{leZ, ltZ}
 use Rattle.number_rules.specs.Angle.{full-turn, half-turn, quarter-turn}
 use Rattle.arctangent.specs.Arctangent.{arctangent}
+use Rattle.arctangent.specs.Direction.{angle-or}
+use Rattle.arctangent.specs.declared.direction.Direction.{Direction}
 use Rattle.numbers.specs.Root.{root}
 use Rattle.numbers.specs.declared.sine.SineCosine.{SineCosine}
 use Rattle.sum_rules.specs.Instant.{minus}
@@ -22,21 +22,21 @@ horizon φ vector =
       east = vector .y;
     }
 
--- azimuth = arctangent(east, north)
-unfoldable pub azimuth : Horizon → ℤ
-azimuth seen = pos (arctangent (seen .east) (seen .north))
+-- azimuth = arctangent(east, north): absent where both are zero (02, Item 5)
+unfoldable pub azimuth : Horizon → Direction
+azimuth seen = arctangent (seen .east) (seen .north)
 
 -- root(north² + east²), these squares unfloored
 unfoldable pub level : Horizon → ℤ
 level seen = pos (root (natAbs (seen .north *ℤ seen .north +ℤ seen .east *ℤ seen .east)))
 
--- both zero: the elevation's own rule, apart from the arctangent's
+-- both zero: the elevation's own rule
 abbrev pub elevation-of-zeros : ℤ
 elevation-of-zeros = pos 0
 
 -- the angle of up over level: arctangent(up, level)
 unfoldable pub slope : ℤ → ℤ → ℤ
-slope up level = cond (eqb (natAbs up + natAbs level) 0) elevation-of-zeros (pos (arctangent up level))
+slope up level = angle-or elevation-of-zeros (arctangent up level)
 
 -- less a whole turn from 180 degrees up
 unfoldable pub lowered : ℤ → ℤ

@@ -1,8 +1,8 @@
 -- From the centre to the runner (01, the section of that name).
-use mathlib.Core.Path.{_≡_}
-use Prim.Native.Nat.{_<_, _≤_}
-use lib.IntN.{natAbs, pos}
-use Rattle.number_rules.specs.Angle.{full-turn, quarter-turn}
+use Prim.Native.Nat.{_≤_}
+use lib.IntN.{natAbs}
+use Rattle.number_rules.specs.Angle.{quarter-turn}
+use Rattle.arctangent.specs.Direction.{Reduced}
 use Rattle.numbers.specs.declared.sine.SineCosine.{SineCosine}
 use Rattle.sum_rules.specs.declared.instant.Instant.{Instant}
 use Rattle.sky_vectors.specs.Geocentric.{geocentric}
@@ -48,10 +48,9 @@ place-from body runner instant = place-towards (runner .latitude) (direction bod
 unfoldable pub place-at : Body → Point → Instant → Place
 place-at body point instant = place-from body (runner point) instant
 
--- what every place keeps to: azimuth 0 to 35,999,999,999, elevation within ±90 degrees
+-- what every place keeps to: azimuth 0 to 35,999,999,999, where there is one, elevation within ±90 degrees
 pub record InTurns (place : Place) : Type 0 where
-  pub azimuth-natural : place .azimuth ≡ pos (natAbs (place .azimuth))
-  pub azimuth-below : natAbs (place .azimuth) < full-turn
+  pub azimuth-reduced : Reduced (place .azimuth)
   pub elevation-size : natAbs (place .elevation) ≤ quarter-turn
 
 abbrev pub EveryPlaceInTurns : Type 0

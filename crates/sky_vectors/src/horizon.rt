@@ -1,6 +1,8 @@
 // Up, north and east, and the azimuth and the elevation that they make.
 use super::rotation::rotated;
 use super::vector::Vector;
+use arctangent::direction::Direction;
+use arctangent::direction::angle_or;
 use arctangent::direction::arctangent;
 use numbers::angle::Angle;
 use numbers::root::root;
@@ -36,13 +38,13 @@ pub fn horizon_at(latitude: SineCosine, vector: Vector) -> Horizon
     }
 }
 
-pub fn azimuth(seen: Horizon) -> i64
+// Straight overhead and straight underfoot it has none.
+pub fn azimuth(seen: Horizon) -> Direction
     ensures { λ r. ⌜ r ≡ azimuth seen ⌝ }
 {
     let north = seen.north;
     let east = seen.east;
-    let angle = arctangent(east, north).units;
-    angle as i64
+    arctangent(east, north)
 }
 
 // The length of north and east together.
@@ -55,15 +57,11 @@ fn level(seen: Horizon) -> i64
     root((north * north) as u64 + (east * east) as u64) as i64
 }
 
-// An elevation, and the separation of two directions, keep a rule of their own for two zeros, whatever the arctangent says of them.
+// An elevation, and the separation of two vectors, have a rule of their own for two zeros.
 pub fn slope(up: i64, level: i64) -> i64
     ensures { λ r. ⌜ r ≡ slope up level ⌝ }
 {
-    if up == 0 && level == 0 {
-        ELEVATION_OF_ZEROS
-    } else {
-        arctangent(up, level).units as i64
-    }
+    angle_or(ELEVATION_OF_ZEROS, arctangent(up, level))
 }
 
 // Less a whole turn from 180 degrees up.

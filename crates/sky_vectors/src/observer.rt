@@ -1,6 +1,6 @@
 // Where the runner stands on the flattened Earth.
 use super::vector::Vector;
-use arctangent::direction::arctangent;
+use arctangent::direction::angle_of;
 use numbers::sine::SineCosine;
 use numbers::sine::sine_cosine_in;
 use numbers::whole::floor_div;
@@ -24,7 +24,7 @@ pub struct Observer {
     pub g: i64,
 }
 
-// At a latitude, and at a height in metres.
+// At a latitude, and at a height in metres. The two numbers of w are never both zero, so that it has a direction.
 pub fn observer_at(table: &[u32; 361], latitude: SineCosine, height: i64) -> Observer
     requires { ⌜ (now table ≡ sines) × OneAngle latitude × (natAbs height ≤ highest-height) ⌝ }
     ensures { λ r. ⌜ r ≡ observer latitude height ⌝ }
@@ -32,7 +32,7 @@ pub fn observer_at(table: &[u32; 361], latitude: SineCosine, height: i64) -> Obs
     let sine = latitude.sine;
     let cosine = latitude.cosine;
     let flattened = floor_div(POLAR * sine, 100_000_000);
-    let angle = arctangent(flattened, cosine).units;
+    let angle = angle_of(flattened, cosine).units;
     let w = sine_cosine_in(table, angle as i64);
     let sine_w = w.sine;
     let cosine_w = w.cosine;

@@ -16,6 +16,7 @@ use super::vector::Vector;
 use super::vector::equatorial;
 use super::vector::meridian;
 use super::vector::unit_vector;
+use arctangent::direction::Direction;
 use numbers::sine::SineCosine;
 use numbers::sine::sine_cosine_in;
 use sum_rules::instant::Instant;
@@ -28,7 +29,7 @@ ghost use Rattle.numbers.specs.SineCosine.{OneAngle};
 ghost use Rattle.sky_vectors.specs.SkyRange.{SmallVector, SmallObserver, Standing, OnEarth, Reachable, parallax-limit, direction-limit};
 
 pub struct Place {
-    pub azimuth: i64,
+    pub azimuth: Direction,
     pub elevation: i64,
 }
 

@@ -84,8 +84,8 @@ pub fn appended_padded(text: Text, count: usize, size: u64) -> Text
     appended_byte(before, b'0' + (size % 10) as u8)
 }
 
-// Any size has 12 digits before the point at most.
-fn appended_units(text: Text, size: u64) -> Text
+// Units of 10⁻⁸ with eight decimals; any size has 12 digits before the point at most.
+pub fn appended_units(text: Text, size: u64) -> Text
     requires { ⌜ text .length + 21 ≤ text-room ⌝ }
     ensures { λ r. ⌜ Appended text (with-point size) r ⌝ }
 {
@@ -93,7 +93,7 @@ fn appended_units(text: Text, size: u64) -> Text
     appended_padded(appended_byte(whole, b'.'), 8, size)
 }
 
-// Units of 10⁻⁸ with eight decimals.
+// The same with its sign.
 pub fn appended_decimals(text: Text, value: i64) -> Text
     requires { ⌜ text .length + 22 ≤ text-room ⌝ }
     ensures { λ r. ⌜ Appended text (decimals value) r ⌝ }

@@ -4,6 +4,8 @@ use Prim.Native.Nat.{_-_, _<_, _≤_, zero-le, ℕ}
 use native.Mathlib.Omega.{arith}
 use lib.ListN.{getD, length, length-set, take}
 use borrow.Author.Needs.{needs}
+use Rattle.arctangent.specs.Direction.{Reduced, angle-or, mark}
+use Rattle.sky_vectors.proofs.PlaceLaws.{place-from-in-turns}
 use mir.Syntax.{w64}
 use mir.Val.{SFits}
 use Rattle.batch.proofs.BatchLaws.{filled-all, filled-none, stored}
@@ -39,8 +41,10 @@ module _ (c : tie.After-place-from Inv-loop μ-loop) where
   place-is : c .place-from .result ≡ place-from (s .args .body) (s .args .runner) (later (s .args .start) offset)
   place-is = c .place-from .ensures ∙ ap (place-from (s .args .body) (s .args .runner)) (c .before .later .ensures)
 
-  azimuth-fits : SFits w64 (c .place-from .result .azimuth)
-  azimuth-fits = search needs
+  azimuth-reduced : Reduced (c .place-from .result .azimuth)
+  azimuth-reduced =
+      subst⁻¹ (λ (p : Place). Reduced (p .azimuth)) place-is
+      (place-from-in-turns (s .args .body) (s .args .runner) (later (s .args .start) offset) .azimuth-reduced)
 
   elevation-fits : SFits w64 (c .place-from .result .elevation)
   elevation-fits = search needs
@@ -69,6 +73,9 @@ place-from-requires c κs =
     let s = c .before .before .before .before .before in
     let near = s .pre .0 .1 .1 .each (c .before .before .before .loop .i) (omega arith) in
     (s .pre .0 .0, (s .pre .0 .1 .0, subst⁻¹ Reachable (c .later .ensures) near))
+
+angle-or-requires : tie.Need-angle-or-requires Inv-loop μ-loop
+angle-or-requires c κs = azimuth-reduced c
 
 mul-azimuth : tie.Need-mul-azimuth Inv-loop μ-loop
 mul-azimuth c = search needs
@@ -103,7 +110,7 @@ loop-again c =
       simp length-set (at .loop .inv .1),
       simp length-set (at .loop .inv .2),
       stored (azimuth-from (a .body) (a .runner) (a .start)) (a .offsets .now) (a .azimuths .now) i here (s k .pre .1 .0) (at .loop .inv .3)
-          (azimuth-fits k .sfits) (ap (λ (p : Place). p .azimuth) (place-is k)),
+          (c .before .angle-or .ok) (c .before .angle-or .ensures ∙ ap (λ (p : Place). angle-or mark (p .azimuth)) (place-is k)),
       stored (elevation-from (a .body) (a .runner) (a .start)) (a .offsets .now) (a .elevations .now) i here (s k .pre .1 .1) (at .loop .inv .4)
           (elevation-fits k .sfits) (ap (λ (p : Place). p .elevation) (place-is k)),
     )
@@ -125,4 +132,4 @@ returns c =
 pub fill-spec : {M : Type 1} → statement M
 fill-spec =
     tie.close
-    (tie.spec Inv-loop μ-loop loop-holds mul-later shared-slice-read-later later-requires place-from-requires mul-azimuth slice-set-from-azimuth mul-elevation slice-set-from-elevation add-i loop-less loop-again same-length same-length-2 returns)
+    (tie.spec Inv-loop μ-loop loop-holds mul-later shared-slice-read-later later-requires place-from-requires angle-or-requires mul-azimuth slice-set-from-azimuth mul-elevation slice-set-from-elevation add-i loop-less loop-again same-length same-length-2 returns)

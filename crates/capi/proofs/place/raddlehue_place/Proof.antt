@@ -1,16 +1,15 @@
 -- `capi::place::raddlehue_place` meets its contract. The sky's answer is the request's own, where no code is refused; its case says what is written.
-use mathlib.Core.List.{[], _∷_}
-use mathlib.Core.Path.{_∙_, _≡_, ap, refl, sym}
+use mathlib.Core.Path.{_∙_, _≡_, ap, sym}
 use Prim.Native.Nat.{ℕ}
 use borrow.Author.Needs.{needs}
-use Rattle.numbers.proofs.Machine.{passed}
-use Rattle.sky.specs.Answer.{Answer, nowhere, place, place-answer}
+use Rattle.sky.specs.Answer.{Answer, PlaceNumbers, nowhere, place, place-answer}
+use Rattle.sky.proofs.AnswerLaws.{found-in-turns}
 use Rattle.request.specs.Request.{start-from}
-use Rattle.sky_vectors.specs.declared.place.Place.{Place}
-use Rattle.capi.specs.Answers.{coded-place, place-values}
+use Rattle.capi.specs.Answers.{coded-place}
 use Rattle.boundary.specs.Codes.{air-of, body-of, code-refusal}
 use Rattle.boundary.specs.Given.{point-from}
-use Rattle.capi.proofs.WrittenLaws.{known, refused, refused-by, seen, unknown}
+use Rattle.boundary.specs.Lent.{flag, place-values}
+use Rattle.capi.proofs.WrittenLaws.{answered, known, refused, refused-by, seen, unknown}
 use Rattle.capi.proofs.place.raddlehue_place.Statement.{statement}
 use Rattle.capi.proofs.place.raddlehue_place.Tie as tie
 
@@ -19,13 +18,13 @@ module _ (s : tie.Start) where
   abbrev refusal-of : ℕ
   refusal-of = code-refusal (s .args .body) (s .args .air)
 
-  abbrev ruled : Answer Place
+  abbrev ruled : Answer PlaceNumbers
   ruled = place (start-from (s .args .start .now)) (body-of (s .args .body)) (point-from (s .args .point .now)) (air-of (s .args .air) (s .args .pressure) (s .args .temperature))
 
-  abbrev refusing : Answer Place
+  abbrev refusing : Answer PlaceNumbers
   refusing = record { refusal = refusal-of; value = nowhere }
 
-  abbrev asked : Answer Place
+  abbrev asked : Answer PlaceNumbers
   asked = coded-place (s .args .start .now) (s .args .body) (s .args .point .now) (s .args .air) (s .args .pressure) (s .args .temperature)
 
 -- the sky's answer
@@ -52,8 +51,10 @@ returns : tie.Need-returns
 returns c =
     let s = c .before .before in
     let is = c .before .code-refusal .ensures in
-    refused (asked s .refusal) (place-values (asked s .value)) (s .args .place .now)
-    (is ∙ ap (λ (a : Answer Place). a .refusal) (unknown (refusal-of s) (ruled s) (refusing s) is (c .if1 .taken))) (c .if1 .taken)
+    let same = is ∙ ap (λ (a : Answer PlaceNumbers). a .refusal) (unknown (refusal-of s) (ruled s) (refusing s) is (c .if1 .taken)) in
+    let flag-left = refused (asked s .refusal) (flag (asked s .value .has-azimuth)) (s .args .has-azimuth .now) same (c .if1 .taken) in
+    let numbers-left = refused (asked s .refusal) (place-values (asked s .value)) (s .args .place .now) same (c .if1 .taken) in
+    (same, (flag-left .1, numbers-left .1))
 
 air-of-requires : tie.Need-air-of-requires
 air-of-requires c κs = search needs
@@ -73,8 +74,12 @@ place-requires c κs = search needs
 enum-known-seen : tie.Need-enum-known-seen
 enum-known-seen c = search needs
 
-put-pair-requires : tie.Need-put-pair-requires
-put-pair-requires c κs = search needs
+put-place-requires : tie.Need-put-place-requires
+put-place-requires c κs =
+    let k = c .before .before .before in
+    let a = k .before .before in
+    found-in-turns (b a .before .start-of .result) (b a .body-of .result) (a .before .point-of .result) (b a .before .before .air-of .result) (k .seen .given .0 .0)
+    (sym (ap place-answer (k .seen .given .1)) ∙ a .place .ensures .0 .equal)
 
 enum-known-refused : tie.Need-enum-known-refused
 enum-known-refused c = search needs
@@ -84,21 +89,23 @@ number-of-requires c κs = search needs
 
 returns-2 : tie.Need-returns-2
 returns-2 c =
-    let told = c .before .before in
-    let k = told .before .before .before in
+    let k = c .before .before .before .before in
     let a = k .before .before in
-    let found = k .seen .given .0 .0 in
-    let azimuth = passed {r = found .azimuth} (told .struct-told .given .0 .1) refl in
-    let elevation = passed {r = found .elevation} (told .struct-told .given .1 .0 .1) refl in
-    seen place-values (asked (s a)) (s a .args .place .now) (sym (ap place-answer (k .seen .given .1)) ∙ answer a)
-    (c .put-pair .ensures ∙ (λ i. azimuth i ∷ elevation i ∷ []))
+    let is = sym (ap place-answer (k .seen .given .1)) ∙ answer a in
+    let none = sym (ap (λ (a : Answer PlaceNumbers). a .refusal) is) in
+    let flagged = answered (asked (s a) .refusal) (flag (asked (s a) .value .has-azimuth)) (s a .args .has-azimuth .now) none (c .put-place .ensures .0 ∙ ap (λ (a : Answer PlaceNumbers). flag (a .value .has-azimuth)) is) in
+    let numbers = seen place-values (asked (s a)) (s a .args .place .now) is (c .put-place .ensures .1) in
+    (numbers .0, (flagged .1, numbers .1))
 
 returns-3 : tie.Need-returns-3
 returns-3 c =
     let k = c .before .before in
     let a = k .before .before in
-    refused-by (asked (s a) .refusal) (place-values (asked (s a) .value)) (s a .args .place .now) (k .refused .given .0 .0) (c .number-of .ensures)
-    (ap (λ (a : Answer Place). a .refusal) (sym (ap place-answer (k .refused .given .1)) ∙ answer a))
+    let is = ap (λ (a : Answer PlaceNumbers). a .refusal) (sym (ap place-answer (k .refused .given .1)) ∙ answer a) in
+    let by = k .refused .given .0 .0 in
+    let flag-left = refused-by (asked (s a) .refusal) (flag (asked (s a) .value .has-azimuth)) (s a .args .has-azimuth .now) by (c .number-of .ensures) is in
+    let numbers-left = refused-by (asked (s a) .refusal) (place-values (asked (s a) .value)) (s a .args .place .now) by (c .number-of .ensures) is in
+    (flag-left .0, (flag-left .1, numbers-left .1))
 
 pub raddlehue-place-spec : {M : Type 1} → statement M
 raddlehue-place-spec =
@@ -112,7 +119,7 @@ raddlehue-place-spec =
     point-of-requires
     place-requires
     enum-known-seen
-    put-pair-requires
+    put-place-requires
     enum-known-refused
     number-of-requires
     returns-2

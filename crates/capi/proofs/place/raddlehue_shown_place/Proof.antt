@@ -6,10 +6,11 @@ use Rattle.sky.specs.Answer.{Answer, shown-answer, shown-place}
 use Rattle.request.specs.Request.{start-from}
 use Rattle.sky.specs.Shown.{nothing-shown}
 use Rattle.sky.specs.declared.shown.Shown.{Shown}
-use Rattle.capi.specs.Answers.{coded-shown-place, shown-values}
+use Rattle.capi.specs.Answers.{coded-shown-place}
 use Rattle.boundary.specs.Codes.{air-of, body-of, code-refusal}
 use Rattle.boundary.specs.Given.{point-from}
-use Rattle.capi.proofs.WrittenLaws.{known, refused, refused-by, seen, unknown}
+use Rattle.boundary.specs.Lent.{flag, shown-values}
+use Rattle.capi.proofs.WrittenLaws.{answered, known, refused, refused-by, seen, unknown}
 use Rattle.capi.proofs.place.raddlehue_shown_place.Statement.{statement}
 use Rattle.capi.proofs.place.raddlehue_shown_place.Tie as tie
 
@@ -51,8 +52,10 @@ returns : tie.Need-returns
 returns c =
     let s = c .before .before in
     let is = c .before .code-refusal .ensures in
-    refused (asked s .refusal) (shown-values (asked s .value)) (s .args .shown .now)
-    (is ∙ ap (λ (a : Answer Shown). a .refusal) (unknown (refusal-of s) (ruled s) (refusing s) is (c .if1 .taken))) (c .if1 .taken)
+    let same = is ∙ ap (λ (a : Answer Shown). a .refusal) (unknown (refusal-of s) (ruled s) (refusing s) is (c .if1 .taken)) in
+    let flag-left = refused (asked s .refusal) (flag (asked s .value .«has_azimuth»)) (s .args .has-azimuth .now) same (c .if1 .taken) in
+    let numbers-left = refused (asked s .refusal) (shown-values (asked s .value)) (s .args .shown .now) same (c .if1 .taken) in
+    (same, (flag-left .1, numbers-left .1))
 
 air-of-requires : tie.Need-air-of-requires
 air-of-requires c κs = search needs
@@ -72,8 +75,8 @@ shown-place-requires c κs = search needs
 enum-known-seen : tie.Need-enum-known-seen
 enum-known-seen c = search needs
 
-put-doubles-requires : tie.Need-put-doubles-requires
-put-doubles-requires c κs = search needs
+put-shown-requires : tie.Need-put-shown-requires
+put-shown-requires c κs = search needs
 
 enum-known-refused : tie.Need-enum-known-refused
 enum-known-refused c = search needs
@@ -83,16 +86,23 @@ number-of-requires c κs = search needs
 
 returns-2 : tie.Need-returns-2
 returns-2 c =
-    let k = c .before .before .before in
+    let k = c .before .before .before .before in
     let a = k .before .before in
-    seen shown-values (asked (s a)) (s a .args .shown .now) (sym (ap shown-answer (k .seen .given .1)) ∙ answer a) (c .put-doubles .ensures)
+    let is = sym (ap shown-answer (k .seen .given .1)) ∙ answer a in
+    let none = sym (ap (λ (a : Answer Shown). a .refusal) is) in
+    let flagged = answered (asked (s a) .refusal) (flag (asked (s a) .value .«has_azimuth»)) (s a .args .has-azimuth .now) none (c .put-shown .ensures .0 ∙ ap (λ (a : Answer Shown). flag (a .value .«has_azimuth»)) is) in
+    let numbers = seen shown-values (asked (s a)) (s a .args .shown .now) is (c .put-shown .ensures .1) in
+    (numbers .0, (flagged .1, numbers .1))
 
 returns-3 : tie.Need-returns-3
 returns-3 c =
     let k = c .before .before in
     let a = k .before .before in
-    refused-by (asked (s a) .refusal) (shown-values (asked (s a) .value)) (s a .args .shown .now) (k .refused .given .0 .0) (c .number-of .ensures)
-    (ap (λ (a : Answer Shown). a .refusal) (sym (ap shown-answer (k .refused .given .1)) ∙ answer a))
+    let is = ap (λ (a : Answer Shown). a .refusal) (sym (ap shown-answer (k .refused .given .1)) ∙ answer a) in
+    let by = k .refused .given .0 .0 in
+    let flag-left = refused-by (asked (s a) .refusal) (flag (asked (s a) .value .«has_azimuth»)) (s a .args .has-azimuth .now) by (c .number-of .ensures) is in
+    let numbers-left = refused-by (asked (s a) .refusal) (shown-values (asked (s a) .value)) (s a .args .shown .now) by (c .number-of .ensures) is in
+    (flag-left .0, (flag-left .1, numbers-left .1))
 
 pub raddlehue-shown-place-spec : {M : Type 1} → statement M
 raddlehue-shown-place-spec =
@@ -106,7 +116,7 @@ raddlehue-shown-place-spec =
     point-of-requires
     shown-place-requires
     enum-known-seen
-    put-doubles-requires
+    put-shown-requires
     enum-known-refused
     number-of-requires
     returns-2

@@ -5,7 +5,7 @@ use Rattle.calendar.proofs.RefusalLaws.{never-none}
 use Rattle.sky_vectors.specs.Place.{place-at}
 use Rattle.sky_vectors.specs.SkyRange.{Reachable}
 use Rattle.refraction.specs.Air.{air-refusals}
-use Rattle.sky.specs.Answer.{nowhere, place, request-refusals}
+use Rattle.sky.specs.Answer.{nowhere, place, place-numbers, request-refusals}
 use Rattle.request.specs.Request.{instant, point-refusals, start-refusals}
 use Rattle.sky.proofs.AnswerLaws.{judged-value, judged-zeros, one-place}
 use Rattle.request.proofs.RequestLaws.{on-earth, point-passes, start-passes, start-reachable}
@@ -52,7 +52,7 @@ returns c =
     let e = c .before .before in
     let a = s e .args in
     let value = c .place-at .ensures ∙ ap (place-at (a .body) (a .point)) (c .before .instant-of .ensures) in
-    one-place ((λ i. record { refusal = 0; value = value i }) ∙ sym (judged-value (first (request-refusals (a .start) (a .point) (a .air))) nowhere _ (passes e)))
+    one-place ((λ i. record { refusal = 0; value = place-numbers (value i) }) ∙ sym (judged-value (first (request-refusals (a .start) (a .point) (a .air))) nowhere _ (passes e)))
 
 returns-2 : tie.Need-returns-2
 unfolding place
@@ -62,7 +62,7 @@ returns-2 c =
     let refusal = c .before .refusal .given .0 .0 in
     let is = sym (e .request-verdict .ensures) ∙ ap verdict-number (c .before .refusal .given .1) in
     one-place ((λ i. record { refusal = sym is i; value = nowhere })
-    ∙ sym (judged-zeros (first (request-refusals (a .start) (a .point) (a .air))) nowhere (place-at (a .body) (a .point) (instant (a .start))) (λ none. never-none refusal (sym is ∙ none))))
+    ∙ sym (judged-zeros (first (request-refusals (a .start) (a .point) (a .air))) nowhere (place-numbers (place-at (a .body) (a .point) (instant (a .start)))) (λ none. never-none refusal (sym is ∙ none))))
 
 pub place-in-spec : {M : Type 1} → statement M
 place-in-spec =

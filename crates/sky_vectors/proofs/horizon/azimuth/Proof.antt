@@ -1,9 +1,9 @@
 -- `sky_vectors::horizon::azimuth` meets its contract.
-use mathlib.Core.Path.{refl}
+use mathlib.Core.Path.{_∙_, ap₂, refl}
 use borrow.Author.Needs.{needs}
+use Rattle.arctangent.specs.Arctangent.{arctangent}
 use Rattle.numbers.proofs.Machine.{Mirror, some-gave}
 use Rattle.sky_vectors.specs.Horizon.{azimuth}
-use Rattle.sky_vectors.proofs.SkyMirror.{angle-fits, angle-gave}
 use Rattle.sky_vectors.proofs.horizon.azimuth.Statement.{statement}
 use Rattle.sky_vectors.proofs.horizon.azimuth.Tie as tie
 
@@ -17,12 +17,9 @@ module _ (k : tie.After-struct-told2) where
 arctangent-requires : tie.Need-arctangent-requires
 arctangent-requires c κs = search needs
 
-cast-result : tie.Need-cast-result
-cast-result c = angle-fits (east (c .before)) (north (c .before)) (c .arctangent .ensures)
-
 returns : tie.Need-returns
 unfolding azimuth
-returns c = angle-gave (east (c .before)) (north (c .before)) (c .arctangent .ensures) .same
+returns c = c .arctangent .ensures ∙ ap₂ arctangent (east (c .before) .same) (north (c .before) .same)
 
 pub azimuth-spec : {M : Type 1} → statement M
-azimuth-spec = tie.close (tie.spec arctangent-requires cast-result returns)
+azimuth-spec = tie.close (tie.spec arctangent-requires returns)

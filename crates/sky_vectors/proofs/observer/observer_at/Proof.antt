@@ -1,12 +1,14 @@
 -- `sky_vectors::observer::observer_at` meets its contract. Each local is mirrored once, at the place where it is known.
-use mathlib.Core.Path.{_∙_, _≡_, ap}
-use lib.IntN.{ℤ}
+use mathlib.Core.Path.{_∙_, _≡_, ap, subst₂, sym}
+use Prim.Native.Nat.{_+_, _<_}
+use lib.IntN.{natAbs, pos, ℤ}
 use borrow.Author.Needs.{needs}
 use Rattle.number_rules.specs.Sine.{cosine, sine}
 use Rattle.numbers.proofs.Machine.{Mirror, _⊕_, _⊗_, arg, fits, floor-gave, kept, lit, told}
 use Rattle.number_rules.proofs.SineSize.{cosine-most, sine-most}
 use Rattle.sky_vectors.specs.Observer.{flattened, observer, polar, radius}
 use Rattle.numbers.proofs.SineCosineLaws.{cosine-in, sine-in}
+use Rattle.sky_vectors.proofs.LatitudeLaws.{directed}
 use Rattle.sky_vectors.proofs.SkyMirror.{angle-fits, angle-gave}
 use Rattle.sky_vectors.proofs.observer.observer_at.Statement.{statement}
 use Rattle.sky_vectors.proofs.observer.observer_at.Tie as tie
@@ -30,15 +32,15 @@ module _ (k : tie.After-struct-told2) where
 abbrev polar-sine : tie.After-floor-div → Mirror
 polar-sine k = floor-gave (kept (shrunk (k .before)) tt) 100_000_000 (k .floor-div .ok) (k .floor-div .ensures)
 
-abbrev angle : tie.After-arctangent → Mirror
-angle k = angle-gave (polar-sine (k .before)) (cosine-φ (k .before .before)) (k .arctangent .ensures)
+abbrev angle : tie.After-angle-of → Mirror
+angle k = angle-gave (polar-sine (k .before)) (cosine-φ (k .before .before)) (k .angle-of .ensures)
 
 module _ (k : tie.After-sine-cosine-in) where
   abbrev read : tie.After-struct-told2
   read = k .before .before .before
 
   abbrev w : ℤ
-  w = flattened (start read .args .latitude)
+  w = pos (flattened (start read .args .latitude))
 
   sine-is : k .sine-cosine-in .result .sine ≡ sine w
   unfolding flattened
@@ -79,11 +81,12 @@ mul-floor-div k = fits (shrunk k) tt
 floor-div-requires : tie.Need-floor-div-requires
 floor-div-requires k κs = search needs
 
-arctangent-requires : tie.Need-arctangent-requires
-arctangent-requires k κs = search needs
+angle-of-requires : tie.Need-angle-of-requires
+angle-of-requires k κs =
+    subst₂ (λ (y x : ℤ). 0 < natAbs y + natAbs x) (sym (polar-sine k .same)) (sym (cosine-φ (k .before) .same)) (directed (start (k .before) .pre .1))
 
 cast-sine-cosine-in : tie.Need-cast-sine-cosine-in
-cast-sine-cosine-in k = angle-fits (polar-sine (k .before)) (cosine-φ (k .before .before)) (k .arctangent .ensures)
+cast-sine-cosine-in k = angle-fits (polar-sine (k .before)) (cosine-φ (k .before .before)) (k .angle-of .ensures)
 
 sine-cosine-in-requires : tie.Need-sine-cosine-in-requires
 sine-cosine-in-requires k κs = search needs
@@ -122,7 +125,7 @@ observer-at-spec =
     (tie.spec
     mul-floor-div
     floor-div-requires
-    arctangent-requires
+    angle-of-requires
     cast-sine-cosine-in
     sine-cosine-in-requires
     mul-floor-div-2

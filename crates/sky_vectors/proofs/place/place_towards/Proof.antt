@@ -26,7 +26,7 @@ returns c =
     let k = c .before in
     let seen = k .before .horizon-at .ensures in
     λ i. record {
-      azimuth = passed (k .azimuth .ok) (k .azimuth .ensures ∙ ap azimuth seen) i;
+      azimuth = (k .azimuth .ensures ∙ ap azimuth seen) i;
       elevation = passed (c .elevation .ok) (c .elevation .ensures ∙ ap elevation seen) i;
     }
 

@@ -1,16 +1,16 @@
--- `arctangent::direction::narrow_direction` meets its contract.
+-- `arctangent::direction::narrow_angle` meets its contract.
 use mathlib.Core.Path.{_∙_, _≡_, ap, refl, subst⁻¹}
 use Prim.Native.Nat.{_^_, _≤_}
 use lib.Dec.{lit≤}
 use lib.IntN.{natAbs}
 use borrow.Author.Needs.{needs}
 use Rattle.number_rules.specs.Angle.{reduced}
-use Rattle.arctangent.specs.Arctangent.{start, steps}
+use Rattle.arctangent.specs.Arctangent.{angle-of, start, steps}
 use Rattle.arctangent.specs.declared.direction.Turning.{Turning}
 use Rattle.arctangent.proofs.ArctangentLaws.{Sized, narrow-sized, start-sized}
 use Rattle.numbers.proofs.Machine.{any, handed, told}
-use Rattle.arctangent.proofs.direction.narrow_direction.Statement.{statement}
-use Rattle.arctangent.proofs.direction.narrow_direction.Tie as tie
+use Rattle.arctangent.proofs.direction.narrow_angle.Statement.{statement}
+use Rattle.arctangent.proofs.direction.narrow_angle.Tie as tie
 
 started-requires : tie.Need-started-requires
 started-requires c κs = (handed (c .fits .y) (c .pre .0), handed (c .fits .x) (c .pre .1))
@@ -40,9 +40,10 @@ new-requires : tie.Need-new-requires
 new-requires c κs = search needs
 
 returns : tie.Need-returns
+unfolding angle-of
 returns c =
     c .new .ensures
     ∙ ap reduced (told {r = c .before .before .turned .result .angle} refl (angle-small (c .before .before)) tt .same ∙ ap (λ (t : Turning). t .angle) (turned-is (c .before .before)))
 
-pub narrow-direction-spec : {M : Type 1} → statement M
-narrow-direction-spec = tie.close (tie.spec started-requires turned-requires new-requires returns)
+pub narrow-angle-spec : {M : Type 1} → statement M
+narrow-angle-spec = tie.close (tie.spec started-requires turned-requires new-requires returns)

@@ -1,4 +1,4 @@
--- `arctangent::wide_direction::wide_stepped` meets its contract.
+-- `arctangent::wide_angle::wide_stepped` meets its contract.
 use mathlib.Core.List.{List, [], _∷_}
 use mathlib.Core.Path.{_∙_, _≡_, ap, refl, subst, subst⁻¹, sym}
 use Prim.Native.Nat.{_<_, _^_, _≤_, ℕ}
@@ -20,8 +20,8 @@ use Rattle.numbers.specs.Whole.{sign}
 use Rattle.arctangent.proofs.ArctangentLaws.{step-signed}
 use Rattle.numbers.proofs.SignLaws.{sign-small, signed-small}
 use Rattle.numbers.proofs.Machine.{Mirror, _⊕_, _⊗_, fits, gave, kept, minus, told}
-use Rattle.arctangent.proofs.wide_direction.wide_stepped.Statement.{statement}
-use Rattle.arctangent.proofs.wide_direction.wide_stepped.Tie as tie
+use Rattle.arctangent.proofs.wide_angle.wide_stepped.Statement.{statement}
+use Rattle.arctangent.proofs.wide_angle.wide_stepped.Tie as tie
 
 module _ (s : tie.Start) where
   abbrev k : ℕ

@@ -1,4 +1,4 @@
--- `arctangent::wide_direction::wide_turned` meets its contract. The invariant: after k turns of the loop p is 2ᵏ and the pair is `steps k` of the first one.
+-- `arctangent::wide_angle::wide_turned` meets its contract. The invariant: after k turns of the loop p is 2ᵏ and the pair is `steps k` of the first one.
 use mathlib.Core.Path.{_∙_, _≡_, ap, refl, subst⁻¹, sym}
 use Prim.Native.Nat.{_*_, _+_, _-_, _^_, _≤_, ℕ}
 use native.Mathlib.Nat.{pow-suc}
@@ -11,10 +11,10 @@ use Rattle.arctangent.specs.Arctangent.{step, steps}
 use Rattle.number_rules.specs.ArctangentTable.{arctangents}
 use Rattle.arctangent.specs.Limbs.{Proper, turning, value}
 use Rattle.arctangent.specs.declared.direction.Turning.{Turning}
-use Rattle.arctangent.specs.declared.wide_direction.WideTurning.{WideTurning}
+use Rattle.arctangent.specs.declared.wide_angle.WideTurning.{WideTurning}
 use Rattle.arctangent.proofs.ArctangentLaws.{Sized, steps-next, wide-sized}
-use Rattle.arctangent.proofs.wide_direction.wide_turned.Statement.{statement}
-use Rattle.arctangent.proofs.wide_direction.wide_turned.Tie as tie
+use Rattle.arctangent.proofs.wide_angle.wide_turned.Statement.{statement}
+use Rattle.arctangent.proofs.wide_angle.wide_turned.Tie as tie
 
 abbrev Inv-loop : tie.InvT-loop
 Inv-loop table r₀ k₀ p₀ r k p = (k ≤ 30) × ((p ≡ 2 ^ k) × ((turning r ≡ steps k (turning r₀)) × (Proper (r .x) × Proper (r .y))))

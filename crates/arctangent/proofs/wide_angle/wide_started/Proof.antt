@@ -1,4 +1,4 @@
--- `arctangent::wide_direction::wide_started` meets its contract.
+-- `arctangent::wide_angle::wide_started` meets its contract.
 use mathlib.Core.List.{[], _∷_}
 use mathlib.Core.Path.{_∙_, _≡_, ap, refl, subst⁻¹}
 use Prim.Native.Nat.{_^_, _≤_}
@@ -14,8 +14,8 @@ use Rattle.arctangent.specs.Limbs.{Proper, limb, value}
 use Rattle.arctangent.proofs.ArctangentLaws.{start-left, start-right}
 use Rattle.arctangent.proofs.LimbLaws.{digit-proper}
 use Rattle.numbers.proofs.Machine.{Mirror, any, less, lit, not-less}
-use Rattle.arctangent.proofs.wide_direction.wide_started.Statement.{statement}
-use Rattle.arctangent.proofs.wide_direction.wide_started.Tie as tie
+use Rattle.arctangent.proofs.wide_angle.wide_started.Statement.{statement}
+use Rattle.arctangent.proofs.wide_angle.wide_started.Tie as tie
 
 abbrev x : tie.Start → Mirror
 x s = any (s .fits .x)

@@ -1,15 +1,15 @@
--- `arctangent::wide_direction::wide_direction` meets its contract.
+-- `arctangent::wide_angle::wide_angle` meets its contract.
 use mathlib.Core.Path.{_∙_, _≡_, ap, refl, subst⁻¹}
 use Prim.Native.Nat.{_^_}
 use borrow.Author.Needs.{needs}
 use Rattle.number_rules.specs.Angle.{reduced}
-use Rattle.arctangent.specs.Arctangent.{start, steps}
+use Rattle.arctangent.specs.Arctangent.{angle-of, start, steps}
 use Rattle.arctangent.specs.Limbs.{turning}
 use Rattle.arctangent.specs.declared.direction.Turning.{Turning}
 use Rattle.arctangent.proofs.ArctangentLaws.{Sized, start-sized}
 use Rattle.numbers.proofs.Machine.{any, told}
-use Rattle.arctangent.proofs.wide_direction.wide_direction.Statement.{statement}
-use Rattle.arctangent.proofs.wide_direction.wide_direction.Tie as tie
+use Rattle.arctangent.proofs.wide_angle.wide_angle.Statement.{statement}
+use Rattle.arctangent.proofs.wide_angle.wide_angle.Tie as tie
 
 wide-started-requires : tie.Need-wide-started-requires
 wide-started-requires c κs = search needs
@@ -31,6 +31,7 @@ new-requires : tie.Need-new-requires
 new-requires c κs = search needs
 
 returns : tie.Need-returns
+unfolding angle-of
 returns c =
     let t = c .before .before in
     c .new .ensures
@@ -38,5 +39,5 @@ returns c =
     (told {r = t .wide-turned .result .angle} refl (t .wide-turned .ensures .1) tt .same
     ∙ ap (λ (u : Turning). u .angle) (t .wide-turned .ensures .0 ∙ ap (steps 30) (start-is (t .before))))
 
-pub wide-direction-spec : {M : Type 1} → statement M
-wide-direction-spec = tie.close (tie.spec wide-started-requires wide-turned-requires new-requires returns)
+pub wide-angle-spec : {M : Type 1} → statement M
+wide-angle-spec = tie.close (tie.spec wide-started-requires wide-turned-requires new-requires returns)

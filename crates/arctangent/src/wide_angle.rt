@@ -10,9 +10,8 @@ ghost use mathlib.Core.Path.{_≡_};
 ghost use mathlib.Core.List.{map};
 ghost use Prim.Native.Nat.{_≤_, _<_, _^_};
 ghost use lib.IntN.{pos, natAbs};
-ghost use Rattle.number_rules.specs.Angle.{reduced};
 ghost use Rattle.number_rules.specs.ArctangentTable.{arctangents};
-ghost use Rattle.arctangent.specs.Arctangent.{step, steps, start};
+ghost use Rattle.arctangent.specs.Arctangent.{step, steps, start, angle-of};
 ghost use Rattle.arctangent.specs.Limbs.{value, turning, Proper, Room};
 
 // A pair that is turned towards the x axis, and the angle that it has been turned by.
@@ -79,9 +78,9 @@ fn wide_started(y: i64, x: i64) -> WideTurning
     }
 }
 
-// The direction of any pair.
-pub fn wide_direction(y: i64, x: i64) -> Angle
-    ensures { λ r. ⌜ r .units ≡ reduced (steps 30 (start y x) .angle) ⌝ }
+// The angle of any pair.
+pub fn wide_angle(y: i64, x: i64) -> Angle
+    ensures { λ r. ⌜ r .units ≡ angle-of y x ⌝ }
 {
     let t = wide_turned(wide_started(y, x));
     let a = t.angle;
