@@ -12,11 +12,17 @@ use Rattle.sky.specs.declared.shown.Shown.{Shown}
 abbrev pub flag : Bool → ℕ
 flag there = cond there 1 0
 
--- beside its flag: azimuth and elevation
+-- of a place: whether there is an azimuth, and beside it azimuth and elevation
+abbrev pub place-flag : PlaceNumbers → ℕ
+place-flag p = flag (p .has-azimuth)
+
 abbrev pub place-values : PlaceNumbers → List ℤ
 place-values p = p .azimuth ∷ p .elevation ∷ []
 
--- beside its flag: azimuth, elevation and refraction
+-- of a shown place likewise: azimuth, elevation and refraction
+abbrev pub shown-flag : Shown → ℕ
+shown-flag p = flag (p .«has_azimuth»)
+
 abbrev pub shown-values : Shown → List Float
 shown-values p = p .azimuth ∷ p .elevation ∷ p .refraction ∷ []
 

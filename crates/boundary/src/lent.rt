@@ -11,7 +11,7 @@ ghost use Rattle.day.specs.Answer.{rise-set-numbers};
 ghost use Rattle.day.specs.Crossing.{crossing-numbers};
 ghost use Rattle.sky.specs.Answer.{place-numbers};
 ghost use Rattle.sky_vectors.specs.Place.{InTurns};
-ghost use Rattle.boundary.specs.Lent.{flag, place-values, rise-set-values, shown-values};
+ghost use Rattle.boundary.specs.Lent.{flag, place-flag, place-values, rise-set-values, shown-flag, shown-values};
 
 pub fn put_pair(pair: &mut [i64; 2], first: i64, second: i64)
     ensures { λ _. ⌜ now (pair .exit) ≡ first ∷ second ∷ [] ⌝ }
@@ -47,7 +47,7 @@ fn flag(there: bool) -> u32
 // The flag of the azimuth, azimuth and elevation.
 pub fn put_place(has_azimuth: &mut u32, pair: &mut [i64; 2], seen: Place)
     requires { ⌜ InTurns seen ⌝ }
-    ensures { λ _. ⌜ now («has_azimuth» .exit) ≡ flag (place-numbers seen .has-azimuth) ⌝ }
+    ensures { λ _. ⌜ now («has_azimuth» .exit) ≡ place-flag (place-numbers seen) ⌝ }
     ensures { λ _. ⌜ now (pair .exit) ≡ place-values (place-numbers seen) ⌝ }
 {
     let azimuth = seen.azimuth;
@@ -57,7 +57,7 @@ pub fn put_place(has_azimuth: &mut u32, pair: &mut [i64; 2], seen: Place)
 
 // The flag of the azimuth, azimuth, elevation and refraction.
 pub fn put_shown(has_azimuth: &mut u32, triple: &mut [f64; 3], seen: Shown)
-    ensures { λ _. ⌜ now («has_azimuth» .exit) ≡ flag (seen .«has_azimuth») ⌝ }
+    ensures { λ _. ⌜ now («has_azimuth» .exit) ≡ shown-flag seen ⌝ }
     ensures { λ _. ⌜ now (triple .exit) ≡ shown-values seen ⌝ }
 {
     *has_azimuth = flag(seen.has_azimuth);

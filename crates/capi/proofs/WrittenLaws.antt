@@ -1,6 +1,5 @@
 -- What every export promises, of the number that it gives and of what it leaves behind its reference: where it refuses, and where it answers.
 use mathlib.Core.Bool.{Bool, cond}
-use mathlib.Core.List.{List}
 use mathlib.Core.Path.{_∙_, _≡_, ap, sym}
 use Prim.Native.Nat.{ℕ}
 use lib.Dec.{eqb}
@@ -23,10 +22,25 @@ module _ {A : Type 0} (refusal : ℕ) (value before : A) where
   answered none same = (sym none, same ∙ sym (ap (λ (b : Bool). cond b value before) (eq-eqb refusal 0 none)))
 
 -- an answer that has a value
-module _ {A B : Type 0} (values : A → List B) (answer : Answer A) (before : List B) where
-  pub seen : {found : A} {left : List B} → record { refusal = 0; value = found } ≡ answer → left ≡ values found → (0 ≡ answer .refusal) × (left ≡ written values answer before)
+module _ {A B : Type 0} (told : A → B) (answer : Answer A) (before : B) where
+  pub seen : {found : A} {left : B} → record { refusal = 0; value = found } ≡ answer → left ≡ told found → (0 ≡ answer .refusal) × (left ≡ written told answer before)
   seen e same =
-      answered (answer .refusal) (values (answer .value)) before (sym (ap (λ (a : Answer A). a .refusal) e)) (same ∙ ap (λ (a : Answer A). values (a .value)) e)
+      answered (answer .refusal) (told (answer .value)) before (sym (ap (λ (a : Answer A). a .refusal) e)) (same ∙ ap (λ (a : Answer A). told (a .value)) e)
+
+-- an answer that is written through two references: a flag, and the numbers beside it
+module _ {A B C : Type 0} (flag : A → B) (values : A → C) (answer : Answer A) (flag-before : B) (before : C) where
+  abbrev Both : ℕ → B → C → Type 0
+  Both r flag-left left = (r ≡ answer .refusal) × ((flag-left ≡ written flag answer flag-before) × (left ≡ written values answer before))
+
+  pub both-refused : {r : ℕ} → r ≡ answer .refusal → (r ≡ 0 → ⊥) → Both r flag-before before
+  both-refused e refuses =
+      (e, (refused (answer .refusal) (flag (answer .value)) flag-before e refuses .1, refused (answer .refusal) (values (answer .value)) before e refuses .1))
+
+  pub both-refused-by : (by : Refusal) {r : ℕ} → r ≡ number by → number by ≡ answer .refusal → Both r flag-before before
+  both-refused-by by e is = both-refused (e ∙ is) (λ none. never-none by (sym e ∙ none))
+
+  pub both-seen : {found : A} {flag-left : B} {left : C} → record { refusal = 0; value = found } ≡ answer → flag-left ≡ flag found → left ≡ values found → Both 0 flag-left left
+  both-seen e flagged same = let numbers = seen values answer before e same in (numbers .0, (seen flag answer flag-before e flagged .1, numbers .1))
 
 -- a request by codes: what refuses an unknown one, or the answer
 module _ {A : Type 0} (refusal : ℕ) (answer refusing : A) where

@@ -1,5 +1,5 @@
 -- The exports over a request: 01's answers, as C is handed them. A refused call gives its number and writes nothing.
-use mathlib.Core.Bool.{Bool, cond}
+use mathlib.Core.Bool.{cond}
 use mathlib.Core.List.{List, [], _∷_}
 use Prim.Native.Nat.{ℕ}
 use lib.Dec.{eqb}
@@ -15,19 +15,14 @@ use Rattle.sky.specs.Shown.{nothing-shown}
 use Rattle.sky.specs.declared.shown.Shown.{Shown}
 use Rattle.boundary.specs.Codes.{air-of, body-of, body-refusal, code-refusal}
 use Rattle.boundary.specs.Given.{point-from}
-use Rattle.boundary.specs.Lent.{flag}
 
 -- what stands behind a reference after the call: the value, or what stood there where refused
 abbrev pub written-one : {A : Type 0} → ℕ → A → A → A
 written-one refusal value before = cond (eqb refusal 0) value before
 
--- the same of an array, by the numbers of the answer's value
-abbrev pub written : {A B : Type 0} → (A → List B) → Answer A → List B → List B
-written values answer before = written-one (answer .refusal) (values (answer .value)) before
-
--- the same of a flag
-abbrev pub written-flag : ℕ → Bool → ℕ → ℕ
-written-flag refusal there before = written-one refusal (flag there) before
+-- the same by what is told of the answer's value: the numbers of an array, or a flag
+abbrev pub written : {A B : Type 0} → (A → B) → Answer A → B → B
+written told answer before = written-one (answer .refusal) (told (answer .value)) before
 
 -- the refusal of a code, with zeros, or the answer to the request
 abbrev pub formed : {A : Type 0} → ℕ → A → Answer A → Answer A

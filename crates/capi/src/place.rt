@@ -11,8 +11,8 @@ use sky::answer::PlaceAnswer;
 use sky::answer::ShownAnswer;
 use sky::answer::shown_place;
 ghost use mathlib.Core.Path.{_≡_};
-ghost use Rattle.boundary.specs.Lent.{place-values, shown-values};
-ghost use Rattle.capi.specs.Answers.{coded-place, coded-shown-place, written, written-flag};
+ghost use Rattle.boundary.specs.Lent.{place-flag, place-values, shown-flag, shown-values};
+ghost use Rattle.capi.specs.Answers.{coded-place, coded-shown-place, written};
 
 // Whether there is an azimuth, azimuth from north over east and elevation without refraction, in 10⁻⁸ degree. The air is only judged.
 #[no_mangle]
@@ -27,7 +27,7 @@ pub extern "C" fn raddlehue_place(
     place: &mut [i64; 2],
 ) -> u32
     ensures { λ r. ⌜ r ≡ coded-place (now (start .entry)) body (now (point .entry)) air pressure temperature .refusal ⌝ }
-    ensures { λ _. ⌜ now («has_azimuth» .exit) ≡ written-flag (coded-place (now (start .entry)) body (now (point .entry)) air pressure temperature .refusal) (coded-place (now (start .entry)) body (now (point .entry)) air pressure temperature .value .has-azimuth) (now («has_azimuth» .entry)) ⌝ }
+    ensures { λ _. ⌜ now («has_azimuth» .exit) ≡ written place-flag (coded-place (now (start .entry)) body (now (point .entry)) air pressure temperature) (now («has_azimuth» .entry)) ⌝ }
     ensures { λ _. ⌜ now (place .exit) ≡ written place-values (coded-place (now (start .entry)) body (now (point .entry)) air pressure temperature) (now (place .entry)) ⌝ }
 {
     let refusal = code_refusal(body, air);
@@ -57,7 +57,7 @@ pub extern "C" fn raddlehue_shown_place(
     shown: &mut [f64; 3],
 ) -> u32
     ensures { λ r. ⌜ r ≡ coded-shown-place (now (start .entry)) body (now (point .entry)) air pressure temperature .refusal ⌝ }
-    ensures { λ _. ⌜ now («has_azimuth» .exit) ≡ written-flag (coded-shown-place (now (start .entry)) body (now (point .entry)) air pressure temperature .refusal) (coded-shown-place (now (start .entry)) body (now (point .entry)) air pressure temperature .value .«has_azimuth») (now («has_azimuth» .entry)) ⌝ }
+    ensures { λ _. ⌜ now («has_azimuth» .exit) ≡ written shown-flag (coded-shown-place (now (start .entry)) body (now (point .entry)) air pressure temperature) (now («has_azimuth» .entry)) ⌝ }
     ensures { λ _. ⌜ now (shown .exit) ≡ written shown-values (coded-shown-place (now (start .entry)) body (now (point .entry)) air pressure temperature) (now (shown .entry)) ⌝ }
 {
     let refusal = code_refusal(body, air);

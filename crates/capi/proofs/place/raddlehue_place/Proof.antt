@@ -8,8 +8,8 @@ use Rattle.request.specs.Request.{start-from}
 use Rattle.capi.specs.Answers.{coded-place}
 use Rattle.boundary.specs.Codes.{air-of, body-of, code-refusal}
 use Rattle.boundary.specs.Given.{point-from}
-use Rattle.boundary.specs.Lent.{flag, place-values}
-use Rattle.capi.proofs.WrittenLaws.{answered, known, refused, refused-by, seen, unknown}
+use Rattle.boundary.specs.Lent.{place-flag, place-values}
+use Rattle.capi.proofs.WrittenLaws.{both-refused, both-refused-by, both-seen, known, unknown}
 use Rattle.capi.proofs.place.raddlehue_place.Statement.{statement}
 use Rattle.capi.proofs.place.raddlehue_place.Tie as tie
 
@@ -51,10 +51,8 @@ returns : tie.Need-returns
 returns c =
     let s = c .before .before in
     let is = c .before .code-refusal .ensures in
-    let same = is ∙ ap (λ (a : Answer PlaceNumbers). a .refusal) (unknown (refusal-of s) (ruled s) (refusing s) is (c .if1 .taken)) in
-    let flag-left = refused (asked s .refusal) (flag (asked s .value .has-azimuth)) (s .args .has-azimuth .now) same (c .if1 .taken) in
-    let numbers-left = refused (asked s .refusal) (place-values (asked s .value)) (s .args .place .now) same (c .if1 .taken) in
-    (same, (flag-left .1, numbers-left .1))
+    both-refused place-flag place-values (asked s) (s .args .has-azimuth .now) (s .args .place .now)
+    (is ∙ ap (λ (a : Answer PlaceNumbers). a .refusal) (unknown (refusal-of s) (ruled s) (refusing s) is (c .if1 .taken))) (c .if1 .taken)
 
 air-of-requires : tie.Need-air-of-requires
 air-of-requires c κs = search needs
@@ -91,21 +89,14 @@ returns-2 : tie.Need-returns-2
 returns-2 c =
     let k = c .before .before .before .before in
     let a = k .before .before in
-    let is = sym (ap place-answer (k .seen .given .1)) ∙ answer a in
-    let none = sym (ap (λ (a : Answer PlaceNumbers). a .refusal) is) in
-    let flagged = answered (asked (s a) .refusal) (flag (asked (s a) .value .has-azimuth)) (s a .args .has-azimuth .now) none (c .put-place .ensures .0 ∙ ap (λ (a : Answer PlaceNumbers). flag (a .value .has-azimuth)) is) in
-    let numbers = seen place-values (asked (s a)) (s a .args .place .now) is (c .put-place .ensures .1) in
-    (numbers .0, (flagged .1, numbers .1))
+    both-seen place-flag place-values (asked (s a)) (s a .args .has-azimuth .now) (s a .args .place .now) (sym (ap place-answer (k .seen .given .1)) ∙ answer a) (c .put-place .ensures .0) (c .put-place .ensures .1)
 
 returns-3 : tie.Need-returns-3
 returns-3 c =
     let k = c .before .before in
     let a = k .before .before in
-    let is = ap (λ (a : Answer PlaceNumbers). a .refusal) (sym (ap place-answer (k .refused .given .1)) ∙ answer a) in
-    let by = k .refused .given .0 .0 in
-    let flag-left = refused-by (asked (s a) .refusal) (flag (asked (s a) .value .has-azimuth)) (s a .args .has-azimuth .now) by (c .number-of .ensures) is in
-    let numbers-left = refused-by (asked (s a) .refusal) (place-values (asked (s a) .value)) (s a .args .place .now) by (c .number-of .ensures) is in
-    (flag-left .0, (flag-left .1, numbers-left .1))
+    both-refused-by place-flag place-values (asked (s a)) (s a .args .has-azimuth .now) (s a .args .place .now) (k .refused .given .0 .0) (c .number-of .ensures)
+    (ap (λ (a : Answer PlaceNumbers). a .refusal) (sym (ap place-answer (k .refused .given .1)) ∙ answer a))
 
 pub raddlehue-place-spec : {M : Type 1} → statement M
 raddlehue-place-spec =
