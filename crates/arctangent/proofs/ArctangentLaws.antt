@@ -1,9 +1,9 @@
 -- The arctangent: which case a test of the sign leaves, how large the numbers grow, and what a direction keeps to.
 use mathlib.Core.Bool.{Bool, cond, false, true}
 use mathlib.Core.List.{[], _∷_}
-use mathlib.Core.Path.{_≡_, ap, refl, subst, subst⁻¹, sym}
+use mathlib.Core.Path.{_∙_, _≡_, ap, refl, subst, subst⁻¹, sym}
 use Prim.Native.Nat.{_*_, _+_, _/_, _<_, _^_, _≤_, suc, zero, ℕ}
-use native.Mathlib.Decide.{le-ind}
+use native.Mathlib.Decide.{decLt, le-ind}
 use native.Mathlib.Nat.{le-of-lt, le-refl, le-trans}
 use native.Mathlib.Numerals.{add-one}
 use native.Mathlib.Omega.{arith}
@@ -18,8 +18,8 @@ use Rattle.arithmetic.proofs.Integers.{solveℤ}
 use Rattle.arithmetic.proofs.Sizes.{abs-neg, add-bound, mul-bound, sub-bound}
 use Rattle.arithmetic.proofs.Solver.{_:*_, _:+_, _:-_, con, k0, k1, x0, x1}
 use Rattle.number_rules.specs.Angle.{full-turn, half-turn}
-use Rattle.arctangent.specs.Arctangent.{angle-of, arctangent, start, step, steps}
-use Rattle.arctangent.specs.Direction.{Reduced, angle-or, is-there, mark}
+use Rattle.arctangent.specs.Arctangent.{EveryDirectionReduced, NoneAtZeros, angle-of, arctangent, start, step, steps}
+use Rattle.arctangent.specs.Direction.{DirectionsTold, Reduced, angle-or, is-there, mark}
 use Rattle.arctangent.specs.declared.direction.Direction.{Direction}
 use Rattle.arctangent.specs.declared.direction.Direction.the-variants.{None, Towards}
 use Rattle.number_rules.specs.ArctangentTable.{turn-by}
@@ -27,6 +27,7 @@ use Rattle.numbers.specs.Whole.{by-sign, sign}
 use Rattle.arctangent.specs.declared.direction.Turning.{Turning}
 use Rattle.number_rules.proofs.ArctangentTableLaws.{turn-small}
 use Rattle.number_rules.proofs.SineLaws.{reduced-below}
+use Rattle.numbers.proofs.Machine.{Mirror}
 use Rattle.numbers.proofs.SignLaws.{signed-small}
 
 -- ---- a step as the code takes it: by the sign of y, with no case
@@ -172,7 +173,7 @@ pub not-both : (y x : ℤ) → 0 < natAbs y + natAbs x → arctangent y x ≡ To
 unfolding arctangent
 not-both y x h = rw (ne-eqb (natAbs y + natAbs x) 0 (omega arith)) refl
 
-pub arctangent-reduced : (y x : ℤ) → Reduced (arctangent y x)
+pub arctangent-reduced : EveryDirectionReduced
 unfolding arctangent
 arctangent-reduced y x = go (eqb (natAbs y + natAbs x) 0)
   where
@@ -180,7 +181,26 @@ arctangent-reduced y x = go (eqb (natAbs y + natAbs x) 0)
     go true = tt
     go false = angle-below y x
 
--- its angle, with a number below a full turn for none, is such a number too
+pub none-at-zeros : NoneAtZeros
+none-at-zeros y x = (go (decLt 0 (natAbs y + natAbs x)), λ both. both-zero (both .0) (both .1))
+  where
+    none : (z : ℤ) → natAbs z ≤ 0 → z ≡ pos 0
+    none (pos n) h = ap pos (omega arith)
+    none (negsuc n) h = absurd (omega arith)
+
+    go : Dec (0 < natAbs y + natAbs x) → arctangent y x ≡ None → (y ≡ pos 0) × (x ≡ pos 0)
+    go (yes h) e = absurd (subst T (ap is-there (sym (not-both y x h) ∙ e)) tt)
+    go (no h) e = (none y (omega (arith, h)), none x (omega (arith, h)))
+
+-- ---- what a call of `arctangent` gave
+module _ {r : Direction} (y x : Mirror) (e : r ≡ arctangent (y .machine) (x .machine)) where
+  pub gave-direction : r ≡ arctangent (y .number) (x .number)
+  gave-direction = e ∙ (λ i. arctangent (y .same i) (x .same i))
+
+  pub gave-reduced : Reduced r
+  gave-reduced = subst⁻¹ Reduced e (arctangent-reduced (y .machine) (x .machine))
+
+-- ---- its angle, with a number below a full turn for none, is such a number too
 pub angle-most : (none : ℤ) (d : Direction) → natAbs none ≤ full-turn → Reduced d → natAbs (angle-or none d) ≤ full-turn
 angle-most none (Towards angle) h r = le-of-lt r
 angle-most none None h r = h
@@ -190,13 +210,13 @@ angle-natural none (Towards angle) = refl
 angle-natural none None = refl
 
 -- one direction and no other is there and has the angle
-pub direction-tells : (c d : Direction) → is-there c ≡ is-there d → angle-or (pos 0) c ≡ angle-or (pos 0) d → c ≡ d
+pub direction-tells : DirectionsTold
 direction-tells (Towards a) (Towards b) there same = ap (λ (z : ℤ). Towards (record { units = natAbs z })) same
 direction-tells (Towards a) None there same = absurd (subst T there tt)
 direction-tells None (Towards b) there same = absurd (subst⁻¹ T there tt)
 direction-tells None None there same = refl
 
--- and none is an angle, so that the mark is told from any
+-- the mark is no reduced angle
 pub mark-tells : (d : Direction) → Reduced d → angle-or mark d ≡ mark → d ≡ None
 mark-tells (Towards angle) r same = absurd (omega (arith, r, ap natAbs same))
 mark-tells None r same = refl

@@ -1,9 +1,12 @@
 -- The arctangent of (y, x) (01, "Arctangent", as 02's Item 5 mends it): a reduced angle, or no direction.
 use mathlib.Core.Bool.{cond}
+use mathlib.Core.Logic.{_↔_}
+use mathlib.Core.Path.{_≡_}
 use Prim.Native.Nat.{ℕ, zero, suc, _+_, _^_}
 use lib.Dec.{eqb}
 use lib.IntN.{ℤ, pos, negsuc, negℤ, natAbs, _+ℤ_, _-ℤ_, _*ℤ_}
 use Rattle.arithmetic.specs.Floor.{⌊_÷_⌋}
+use Rattle.arctangent.specs.Direction.{Reduced}
 use Rattle.arctangent.specs.declared.direction.Direction.{Direction}
 use Rattle.arctangent.specs.declared.direction.Direction.the-variants.{None, Towards}
 use Rattle.arctangent.specs.declared.direction.Turning.{Turning}
@@ -36,3 +39,10 @@ angle-of y x = reduced (steps 30 (start y x) .angle)
 -- both zero: no direction
 unfoldable pub arctangent : ℤ → ℤ → Direction
 arctangent y x = cond (eqb (natAbs y + natAbs x) 0) None (Towards (record { units = angle-of y x }))
+
+-- THE CLAIMS, for any two numbers: no direction exactly when both are zero, and every angle is reduced
+abbrev pub NoneAtZeros : Type 0
+NoneAtZeros = (y x : ℤ) → (arctangent y x ≡ None) ↔ ((y ≡ pos 0) × (x ≡ pos 0))
+
+abbrev pub EveryDirectionReduced : Type 0
+EveryDirectionReduced = (y x : ℤ) → Reduced (arctangent y x)

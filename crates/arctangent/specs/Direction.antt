@@ -1,5 +1,6 @@
 -- A direction in numbers (02, Item 5). Who asks for an angle says what "none" means to him.
 use mathlib.Core.Bool.{Bool, false, true}
+use mathlib.Core.Path.{_≡_}
 use Prim.Native.Nat.{_-_, _<_, _^_}
 use lib.IntN.{pos, ℤ}
 use Rattle.number_rules.specs.Angle.{full-turn}
@@ -27,6 +28,10 @@ pub record AzimuthNumbers : Type 0 where
 
 abbrev pub azimuth-numbers : Direction → AzimuthNumbers
 azimuth-numbers direction = record { has = is-there direction; single = angle-or (pos 0) direction; entry = angle-or mark direction }
+
+-- one direction and no other has its flag and its number
+abbrev pub DirectionsTold : Type 0
+DirectionsTold = (c d : Direction) → azimuth-numbers c .has ≡ azimuth-numbers d .has → azimuth-numbers c .single ≡ azimuth-numbers d .single → c ≡ d
 
 -- what every direction keeps to: its angle is below a full turn
 abbrev pub Reduced : Direction → Type 0

@@ -1,3 +1,3 @@
-pub mod Arctangent
 pub mod Direction
+pub mod Arctangent
 pub mod Limbs

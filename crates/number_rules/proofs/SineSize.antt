@@ -14,7 +14,7 @@ use Rattle.arithmetic.proofs.Sizes.{abs-neg}
 use Rattle.arithmetic.proofs.Table.{at, every}
 use Rattle.number_rules.specs.Angle.{full-turn, half-turn, quarter-turn, reduced}
 use Rattle.number_rules.specs.Sine.{cosine, entry, fold, half-fold, negated-from-half, quarter-sine, radians, rest-cosine, rest-sine, sine, sine-at}
-use Rattle.number_rules.specs.SineAccuracy.{SineOrCosine, SineSize}
+use Rattle.number_rules.specs.SineAccuracy.{SineOrCosine, SineSize, together-least}
 use Rattle.number_rules.specs.SineTable.{sines}
 use Rattle.number_rules.proofs.SineLaws.{cosine-is, fold-high, fold-low, fold-most, half-high, half-low, reduced-below, sign-high, sign-low}
 use Rattle.number_rules.proofs.SineSteps.{radians-most, rest-cosine-most, rest-sine-most, square-most}
@@ -191,7 +191,7 @@ unfolding pair-test sines
 pair-at k h = at pair-test 0 sines pair-tested k (omega arith)
 
 abbrev Together : ℕ → Type 0
-Together n = (999_900_000 ≤ n) × (n ≤ 1_423_000_000)
+Together n = (together-least ≤ n) × (n ≤ 1_423_000_000)
 
 quarter-pair : (y : ℕ) → y ≤ quarter-turn → Together (quarter-sine y + quarter-sine (quarter-turn - y))
 quarter-pair y h = go (ℕ-discrete ((quarter-turn - y) / 25_000_000) (360 - k))

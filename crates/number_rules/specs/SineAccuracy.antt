@@ -1,5 +1,5 @@
 -- Sine lies within 6 units of the reference (01, "Sine"), and so does cosine: at every angle in 10⁻⁸ degree, reduced or not.
-use Prim.Native.Nat.{_+_, _≤_}
+use Prim.Native.Nat.{_+_, _≤_, ℕ}
 use lib.IntN.{natAbs, ℤ}
 use Rattle.exact.specs.Fraction.{Within, _*q_, _-q_, _over_, nat, whole, ℚ}
 use Rattle.exact.specs.Reference.{cos°, sin°}
@@ -23,6 +23,9 @@ CosineNear = (x : ℤ) → SixFrom (cosine x) (cos° (degrees x))
 abbrev pub SineSize : Type 0
 SineSize = (x : ℤ) → (natAbs (sine x) ≤ 1_000_000_001) × (natAbs (cosine x) ≤ 1_000_000_001)
 
--- of one angle they are never both zero
+-- of one angle they are never both zero: together at least this
+abbrev pub together-least : ℕ
+together-least = 999_900_000
+
 abbrev pub SineOrCosine : Type 0
-SineOrCosine = (x : ℤ) → 999_900_000 ≤ natAbs (sine x) + natAbs (cosine x)
+SineOrCosine = (x : ℤ) → together-least ≤ natAbs (sine x) + natAbs (cosine x)

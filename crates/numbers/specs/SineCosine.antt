@@ -2,6 +2,7 @@
 use Prim.Native.Nat.{_+_, _≤_}
 use lib.IntN.{natAbs, ℤ}
 use Rattle.number_rules.specs.Sine.{cosine, sine}
+use Rattle.number_rules.specs.SineAccuracy.{together-least}
 use Rattle.numbers.specs.declared.sine.SineCosine.{SineCosine}
 
 unfoldable pub sine-cosine : ℤ → SineCosine
@@ -12,4 +13,4 @@ pub record OneAngle (angle : SineCosine) : Type 0 where
   pub sine-size : natAbs (angle .sine) ≤ 1_000_000_001
   pub cosine-size : natAbs (angle .cosine) ≤ 1_000_000_001
   pub together : natAbs (angle .sine) + natAbs (angle .cosine) ≤ 1_423_000_000
-  pub not-both-zero : 999_900_000 ≤ natAbs (angle .sine) + natAbs (angle .cosine)
+  pub not-both-zero : together-least ≤ natAbs (angle .sine) + natAbs (angle .cosine)

@@ -1,7 +1,7 @@
 -- The mark has no middle with any azimuth: it is not reduced.
 use mathlib.Core.Bool.{Bool, _&&_, cond, false, true}
 use mathlib.Core.Path.{_≡_, refl}
-use lib.IntN.{natAbs, ℤ}
+use lib.IntN.{natAbs}
 use Rattle.arctangent.specs.Direction.{mark}
 use Rattle.heading.specs.Heading.{MiddleAnswer, is-reduced, middle, middle-of}
 use Rattle.sky.specs.Mark.{MarkHasNoMiddle}

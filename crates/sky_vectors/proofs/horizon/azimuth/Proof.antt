@@ -1,7 +1,7 @@
 -- `sky_vectors::horizon::azimuth` meets its contract.
-use mathlib.Core.Path.{_∙_, ap₂, refl}
+use mathlib.Core.Path.{refl}
 use borrow.Author.Needs.{needs}
-use Rattle.arctangent.specs.Arctangent.{arctangent}
+use Rattle.arctangent.proofs.ArctangentLaws.{gave-direction}
 use Rattle.numbers.proofs.Machine.{Mirror, some-gave}
 use Rattle.sky_vectors.specs.Horizon.{azimuth}
 use Rattle.sky_vectors.proofs.horizon.azimuth.Statement.{statement}
@@ -19,7 +19,7 @@ arctangent-requires c κs = search needs
 
 returns : tie.Need-returns
 unfolding azimuth
-returns c = c .arctangent .ensures ∙ ap₂ arctangent (east (c .before) .same) (north (c .before) .same)
+returns c = gave-direction (east (c .before)) (north (c .before)) (c .arctangent .ensures)
 
 pub azimuth-spec : {M : Type 1} → statement M
 azimuth-spec = tie.close (tie.spec arctangent-requires returns)
