@@ -1,6 +1,7 @@
 # make               build the command `raddlehue` over the proved archive, and show today's Sun and Moon
 # make test          the gate: outside checks, every proof from nothing (it removes target/ first), every must-fail edit
 # make differential  a million random requests and 5,000 whole days, the archive against the ordinary Rust version
+# make memcheck      a million damaged strips under valgrind: nothing is read or written outside of what was lent (minutes)
 # make figures       measure, and write docs/FIGURES.md
 # make lib           prove and build the archive for C and Rust, target/lib/libraddlehue.a
 # make install       install it, the command, the header, the documents and a pkg-config file: PREFIX=/usr/local, and DESTDIR before it
@@ -30,7 +31,7 @@ define needs_cargo
 @command -v cargo > /dev/null || { echo "make $@ needs cargo and rustc (Rust 1.84 or newer), and no cargo is on the PATH" >&2; exit 1; }
 endef
 
-.PHONY: today test differential figures lib install watch phone wasm
+.PHONY: today test differential memcheck figures lib install watch phone wasm
 
 # Greenwich, where longitudes begin
 today: $(COMMAND)
@@ -51,6 +52,14 @@ differential:
 	$(needs_rt)
 	@tools/build-tests differential
 	@target/tests/differential 1000000
+
+# strip by strip, each list at the end of its own allocation
+memcheck:
+	$(needs_rt)
+	@command -v valgrind > /dev/null || { echo "make $@ needs valgrind (Debian's package valgrind), and no valgrind is on the PATH" >&2; exit 1; }
+	@tools/build-tests strip_edges fuzz_strips
+	@valgrind --quiet --error-exitcode=1 target/tests/strip_edges
+	@valgrind --quiet --error-exitcode=1 target/tests/fuzz_strips 1000000
 
 figures:
 	$(needs_rt)

@@ -12,10 +12,10 @@
  * Since version 3 an azimuth may be absent: a body straight overhead, or straight underfoot, has none. A place says so by a flag beside it; a batch and the arctangent,
  * which give bare numbers, by RADDLEHUE_NO_DIRECTION_E8.
  *
- * What is asked of the caller: a pointer points to as many numbers as its type or its length says, aligned as C aligns them; memories that are written do not overlap
- * others of the same call; about 8 KiB of stack (docs/FIGURES.md has the exact numbers), and for a day 11.5 KB of the caller's own beside it, for the curve; and, for the
- * doubles of the shown place and of the refraction, the usual state of the floating-point unit: round to nearest, no flush to zero. Lengths have 64 bits on every
- * processor.
+ * What is asked of the caller: a pointer points to as many numbers as its type or its length says, aligned as C aligns them; memories that are written do not
+ * overlap others of the same call; about 8 KiB of stack (docs/FIGURES.md has the exact numbers), and beside it the caller's own: for a day 11.5 KB for the curve,
+ * for a strip of every minute 5,760 bytes for the azimuths and 5,778 for the strip; and, for the doubles of the shown place and of the refraction, the usual state
+ * of the floating-point unit: round to nearest, no flush to zero. Lengths have 64 bits on every processor.
  */
 #ifndef RADDLEHUE_H
 #define RADDLEHUE_H
@@ -35,9 +35,9 @@ extern "C" {
 #endif
 
 /* The version of this header and of the archive beside it. The first number changes when old code must not compile. */
-#define RADDLEHUE_VERSION "3.0.0"
+#define RADDLEHUE_VERSION "3.1.0"
 #define RADDLEHUE_VERSION_MAJOR 3
-#define RADDLEHUE_VERSION_MINOR 0
+#define RADDLEHUE_VERSION_MINOR 1
 #define RADDLEHUE_VERSION_PATCH 0
 
 /* Units of time to a second, and units of angle to a degree. */
@@ -49,8 +49,8 @@ extern "C" {
  * raddlehue_middle refuses it by 15. (INT64_MAX, whose name an old C++ may lack.) */
 #define RADDLEHUE_NO_DIRECTION_E8 9223372036854775807
 
-/* The refusals. They are checked in the order of their numbers, but 15 before 14, and those from 101 on first of all, since no request can be formed; each function's comment
- * says which it gives. docs/REFUSALS.md has the list. */
+/* The refusals. They are checked in the order of their numbers, but 15 before 14, and those from 101 on first of all, since no request can be formed; a strip's have an
+ * order of their own. Each function's comment says which it gives. docs/REFUSALS.md has the list. */
 enum {
     RADDLEHUE_ACCEPTED = 0,
     RADDLEHUE_YEAR = 1,
@@ -69,11 +69,21 @@ enum {
     RADDLEHUE_OPPOSITE = 14,
     RADDLEHUE_NOT_REDUCED = 15,
     RADDLEHUE_NOT_A_LINE = 16,
+    RADDLEHUE_STRIP_LENGTH = 20,
+    RADDLEHUE_STRIP_VERSION = 21,
+    RADDLEHUE_STRIP_AIR_OR_BODY = 22,
+    RADDLEHUE_STRIP_DATE = 23,
+    RADDLEHUE_STRIP_POINT = 24,
+    RADDLEHUE_STRIP_STEP = 25,
+    RADDLEHUE_STRIP_AZIMUTH = 26,
+    RADDLEHUE_STRIP_NOT_FOUND = 27,
+    RADDLEHUE_STRIP_BUFFER = 28,
     RADDLEHUE_UNKNOWN_BODY = 101,
     RADDLEHUE_UNKNOWN_AIR = 102,
     RADDLEHUE_NO_ELEVATION = 103,
     RADDLEHUE_OUT_OF_REACH = 104,
-    RADDLEHUE_NO_DISKS = 105
+    RADDLEHUE_NO_DISKS = 105,
+    RADDLEHUE_NO_STEP = 106
 };
 
 /* A refusal in words; of a number that is none, that it is unknown. The text is constant and not to be freed. */
@@ -97,11 +107,21 @@ RADDLEHUE_INLINE const char *raddlehue_refusal_text(uint32_t refusal)
     case RADDLEHUE_OPPOSITE: return "two azimuths half a turn apart have no middle";
     case RADDLEHUE_NOT_REDUCED: return "an azimuth is not from 0 up to but not 360 degrees";
     case RADDLEHUE_NOT_A_LINE: return "the line is not whole numbers with single spaces";
+    case RADDLEHUE_STRIP_LENGTH: return "the strip's length does not agree with its bytes, with its step or with the number of azimuths";
+    case RADDLEHUE_STRIP_VERSION: return "the strip is not of version 1";
+    case RADDLEHUE_STRIP_AIR_OR_BODY: return "the strip's air is neither none nor standard, or its body neither Sun nor Moon";
+    case RADDLEHUE_STRIP_DATE: return "the strip's date is not one of 1900 to 2100 in the Gregorian calendar";
+    case RADDLEHUE_STRIP_POINT: return "the strip's longitude is not within 180 degrees, or its latitude not within 90";
+    case RADDLEHUE_STRIP_STEP: return "the step is not 1, 2, 5 or 10 minutes";
+    case RADDLEHUE_STRIP_AZIMUTH: return "an azimuth of the strip is neither absent nor from 0 up to but not 360 degrees";
+    case RADDLEHUE_STRIP_NOT_FOUND: return "neither strip bears that date";
+    case RADDLEHUE_STRIP_BUFFER: return "the buffer is too small for the strip or its azimuths";
     case RADDLEHUE_UNKNOWN_BODY: return "the body is neither Sun nor Moon";
     case RADDLEHUE_UNKNOWN_AIR: return "the air is none of none, standard and measured";
     case RADDLEHUE_NO_ELEVATION: return "the elevation is not within 90 degrees";
     case RADDLEHUE_OUT_OF_REACH: return "the instant is not within 31,904,733,600 tenths of a second of 2000-01-01 12:00";
     case RADDLEHUE_NO_DISKS: return "the separation is not 0 to 180 degrees, the Sun's radius not 0.2 to 0.3 or the Moon's not 0 to 0.3";
+    case RADDLEHUE_NO_STEP: return "the strip has no such step";
     default: return "unknown refusal";
     }
 }
@@ -302,6 +322,142 @@ RADDLEHUE_INLINE raddlehue_day_answer_t raddlehue_day_of(
     answer.rise_minute = rise_set.rise_minute;
     answer.has_set = rise_set.has_set;
     answer.set_minute = rise_set.set_minute;
+    return answer;
+}
+
+/* ---- day strips: a day's azimuths as bytes, to and from the phone */
+
+/* A strip is a header and an azimuth for each step of a UTC date, all numbers big-endian: the length of all that follows (2 bytes), version 1 (1), air (1: 0
+ * none, 1 standard), body (1: 0 Sun, 1 Moon), year (2), month (1), day (1), longitude and latitude (4 each, two's complement), step in minutes (1: 1, 2, 5 or
+ * 10), then the azimuths from minute 0 on (4 each), in 1e-7 degree from north over east, rounded down, 0 to 3,599,999,999, or RADDLEHUE_NO_AZIMUTH_E7 where there
+ * is none. Reading what was written gives the same strip, and writing what was read gives the same bytes. */
+
+/* Bytes of the header, which stand before the azimuths. */
+#define RADDLEHUE_STRIP_HEADER 18
+
+/* How many azimuths, and how many bytes, a strip of a step has; of step 1, the most, 1,440 and 5,778. */
+#define RADDLEHUE_STRIP_STEPS(step_minutes) (RADDLEHUE_DAY_MINUTES / (step_minutes))
+#define RADDLEHUE_STRIP_BYTES(step_minutes) (RADDLEHUE_STRIP_HEADER + 4 * RADDLEHUE_STRIP_STEPS(step_minutes))
+
+/* An absent azimuth of a strip. It is no angle from 0 up to 360 degrees. */
+#define RADDLEHUE_NO_AZIMUTH_E7 4294967295u
+
+/* What a strip says beside its azimuths. */
+typedef struct {
+    int64_t air;          /* RADDLEHUE_AIR_NONE or RADDLEHUE_AIR_STANDARD; measured air is refused by 22 */
+    int64_t body;         /* RADDLEHUE_SUN or RADDLEHUE_MOON */
+    int64_t year;         /* 1900 to 2100, of a UTC date */
+    int64_t month;        /* 1 to 12 */
+    int64_t day;          /* from 1 */
+    int64_t longitude_e7; /* east positive, within 1,800,000,000 */
+    int64_t latitude_e7;  /* north positive, within 900,000,000 */
+    int64_t step_minutes; /* 1, 2, 5 or 10 */
+} raddlehue_strip_t;
+
+/* A day's azimuths for a strip: entry i is the body's azimuth i steps after 00:00:00.0 UTC of the date. Entries behind the last step are left alone. `count` is
+ * how many were written. Refused: 101, then 1 to 3, 5 to 9, 25, and 28 where there are fewer entries than steps. */
+uint32_t raddlehue_day_azimuths(
+    const raddlehue_date_t *date, uint32_t body, const raddlehue_point_t *point, int64_t step_minutes,
+    uint32_t *azimuths_e7, uint64_t azimuths_length, uint64_t *count);
+
+typedef struct {
+    uint32_t refusal;
+    uint64_t count;
+} raddlehue_day_azimuths_answer_t;
+
+RADDLEHUE_INLINE raddlehue_day_azimuths_answer_t raddlehue_day_azimuths_of(
+    raddlehue_date_t date, uint32_t body, raddlehue_point_t point, int64_t step_minutes, uint32_t *azimuths_e7, uint64_t azimuths_length)
+{
+    raddlehue_day_azimuths_answer_t answer;
+    answer.count = 0;
+    answer.refusal = raddlehue_day_azimuths(&date, body, &point, step_minutes, azimuths_e7, azimuths_length, &answer.count);
+    return answer;
+}
+
+/* Writes a strip from its start on: bytes behind it are left alone. `written` is how many bytes it has. Refused: 101, 102, then 22 for measured air, 23 to 25, 20
+ * for another number of azimuths than the step has, 26, and 28 for a buffer that is too small. */
+uint32_t raddlehue_strip_write(
+    const raddlehue_strip_t *strip, const uint32_t *azimuths_e7, uint64_t azimuths_length,
+    uint8_t *bytes, uint64_t bytes_length, uint64_t *written);
+
+typedef struct {
+    uint32_t refusal;
+    uint64_t written;
+} raddlehue_strip_write_answer_t;
+
+RADDLEHUE_INLINE raddlehue_strip_write_answer_t raddlehue_strip_write_of(
+    raddlehue_strip_t strip, const uint32_t *azimuths_e7, uint64_t azimuths_length, uint8_t *bytes, uint64_t bytes_length)
+{
+    raddlehue_strip_write_answer_t answer;
+    answer.written = 0;
+    answer.refusal = raddlehue_strip_write(&strip, azimuths_e7, azimuths_length, bytes, bytes_length, &answer.written);
+    return answer;
+}
+
+/* What the header of a strip says. The bytes are the whole strip: its azimuths are judged too, and left where they are. The length is judged twice, first against
+ * the bytes (and 16, the least), then against the step. Refused: 20, 21 to 25, 20 against the step, and 26. */
+uint32_t raddlehue_strip_read(const uint8_t *bytes, uint64_t bytes_length, raddlehue_strip_t *strip);
+
+typedef struct {
+    uint32_t refusal;
+    raddlehue_strip_t strip;
+} raddlehue_strip_read_answer_t;
+
+RADDLEHUE_INLINE raddlehue_strip_read_answer_t raddlehue_strip_read_of(const uint8_t *bytes, uint64_t bytes_length)
+{
+    raddlehue_strip_t strip = {0, 0, 0, 0, 0, 0, 0, 0};
+    raddlehue_strip_read_answer_t answer;
+    answer.refusal = raddlehue_strip_read(bytes, bytes_length, &strip);
+    answer.strip = strip;
+    return answer;
+}
+
+/* The azimuth of a step, counted from 0, in the azimuth bytes of a strip: those behind its header, or the part that raddlehue_strip_find hands back.
+ * RADDLEHUE_NO_AZIMUTH_E7 where it is absent. Refused: 106 where there is no such step, and 26. */
+uint32_t raddlehue_strip_azimuth(const uint8_t *azimuths, uint64_t azimuths_length, uint64_t step, uint32_t *azimuth_e7);
+
+typedef struct {
+    uint32_t refusal;
+    uint32_t azimuth_e7;
+} raddlehue_strip_azimuth_answer_t;
+
+RADDLEHUE_INLINE raddlehue_strip_azimuth_answer_t raddlehue_strip_azimuth_of(const uint8_t *azimuths, uint64_t azimuths_length, uint64_t step)
+{
+    raddlehue_strip_azimuth_answer_t answer;
+    answer.azimuth_e7 = 0;
+    answer.refusal = raddlehue_strip_azimuth(azimuths, azimuths_length, step, &answer.azimuth_e7);
+    return answer;
+}
+
+/* The azimuth bytes of one of two strips: `length` bytes from `offset` on. */
+typedef struct {
+    uint64_t strip;  /* 1 for the first, 2 for the second */
+    uint64_t offset; /* RADDLEHUE_STRIP_HEADER */
+    uint64_t length; /* in bytes, 4 for each step */
+} raddlehue_strip_part_t;
+
+/* Near midnight the watch has two strips: the part of whichever bears the date asked for, of the first if both do. Both are read wholly, whichever it is.
+ * Refused: 20 to 26 of the first strip, then of the second, in the order of raddlehue_strip_read, then 27 for a date in neither. */
+uint32_t raddlehue_strip_find(
+    const uint8_t *first, uint64_t first_length, const uint8_t *second, uint64_t second_length,
+    int64_t year, int64_t month, int64_t day, raddlehue_strip_part_t *part);
+
+typedef struct {
+    uint32_t refusal;
+    uint64_t strip;
+    uint64_t offset;
+    uint64_t length;
+} raddlehue_strip_find_answer_t;
+
+RADDLEHUE_INLINE raddlehue_strip_find_answer_t raddlehue_strip_find_of(
+    const uint8_t *first, uint64_t first_length, const uint8_t *second, uint64_t second_length, int64_t year, int64_t month, int64_t day)
+{
+    raddlehue_strip_part_t part = {0, 0, 0};
+    raddlehue_strip_find_answer_t answer;
+    answer.refusal = raddlehue_strip_find(first, first_length, second, second_length, year, month, day, &part);
+    answer.strip = part.strip;
+    answer.offset = part.offset;
+    answer.length = part.length;
     return answer;
 }
 

@@ -7,6 +7,8 @@
  */
 #include "requests.h"
 
+#include <stddef.h>
+
 #include "raddlehue.h"
 
 /* ---- seeded numbers: SplitMix64, as in tests/differential.rs */
@@ -89,6 +91,13 @@ static void word(uint64_t x) {
     }
     for (; shift >= 0; shift -= 4) {
         line[at++] = "0123456789abcdef"[(x >> shift) & 15];
+    }
+    line[at++] = ' ';
+}
+
+static void bytes_word(const uint8_t *bytes, int count) {
+    for (int i = 0; i < 2 * count; i++) {
+        line[at++] = "0123456789abcdef"[bytes[i / 2] >> (i % 2 ? 0 : 4) & 15];
     }
     line[at++] = ' ';
 }
@@ -198,15 +207,21 @@ enum { MINUTES = 1440 };
 
 static uint64_t curve[SIDE + MINUTES + SIDE];
 
-/* The curve is long: a line has how many of its cells are still poisoned and its digest, as tests/vectors/days.txt says, and what was written beside it. */
-static void show_curve(void) {
+static void poison(void *memory, size_t bytes) { __builtin_memset(memory, (uint8_t)POISON, bytes); }
+
+/* Long memory, of cells of 8, 4 or 1 bytes with poison on both sides: a line has how many of its cells are still poisoned and its digest, as tests/vectors/days.txt says,
+ * and what was written beside it. */
+static void show_long(const void *memory, unsigned width, int cells) {
     uint64_t poisoned = 0, digest = 0xcbf29ce484222325u;
-    for (int i = 0; i < SIDE + MINUTES + SIDE; i++) {
-        if (i >= SIDE && i < SIDE + MINUTES) {
-            poisoned += curve[i] == POISON;
-            digest = (digest ^ curve[i]) * 0x100000001b3u;
-        } else if (curve[i] != POISON) {
-            name("BESIDE"), word((uint64_t)i), word(curve[i]);
+    for (int i = 0; i < SIDE + cells + SIDE; i++) {
+        uint64_t cell = 0;
+        __builtin_memcpy(&cell, (const uint8_t *)memory + width * (unsigned)i, width);
+        const int is_poisoned = cell == POISON >> (64 - 8 * width);
+        if (i >= SIDE && i < SIDE + cells) {
+            poisoned += is_poisoned;
+            digest = (digest ^ cell) * 0x100000001b3u;
+        } else if (!is_poisoned) {
+            name("BESIDE"), word((uint64_t)i), word(cell);
         }
     }
     word(poisoned), word(digest);
@@ -216,11 +231,105 @@ static void show_curve(void) {
 static void show_day(const int64_t n[8], uint32_t body) {
     const raddlehue_date_t *date = (const raddlehue_date_t *)(const void *)n;
     const raddlehue_point_t *point = (const raddlehue_point_t *)(const void *)(n + 5);
-    for (int i = 0; i < SIDE + MINUTES + SIDE; i++) {
-        curve[i] = POISON;
-    }
+    poison(curve, sizeof curve);
     name("day"), numbers(n, 5), word(body), numbers(n + 5, 3);
-    show_lent(raddlehue_day(date, body, point, (int64_t *)&curve[SIDE], lend()), 2), show_curve(), end_line();
+    show_lent(raddlehue_day(date, body, point, (int64_t *)&curve[SIDE], lend()), 2), show_long(curve, 8, MINUTES), end_line();
+}
+
+/* ---- strips */
+
+/* Azimuths of a strip: a line has a seed for all, and the one that is put among them. A sixth of them are absent. */
+typedef struct {
+    uint32_t seed, at, azimuth;
+} drawn_t;
+
+static uint32_t drawn_azimuth(drawn_t drawn, uint64_t i) {
+    uint32_t any = (uint32_t)((drawn.seed + i) * 0x9e3779b97f4a7c15u >> 32);
+    if (i == drawn.at) {
+        return drawn.azimuth;
+    }
+    return any < 3600000000u ? any : RADDLEHUE_NO_AZIMUTH_E7;
+}
+
+/* A strip as the reader gets it: a line has the bytes of its header, how many bytes there are in all, and its azimuths as they are drawn. */
+typedef struct {
+    uint8_t header[RADDLEHUE_STRIP_HEADER];
+    uint64_t length;
+    drawn_t drawn;
+} strip_t;
+
+/* The largest strip, and room for one that is longer than it says. */
+enum { STRIP_ROOM = RADDLEHUE_STRIP_BYTES(1) + 2 };
+
+static uint8_t strips[2][STRIP_ROOM], written[SIDE + STRIP_ROOM + SIDE];
+static uint32_t azimuths[SIDE + MINUTES + SIDE];
+
+static void show_drawn(drawn_t drawn) { word(drawn.seed), word(drawn.at), word(drawn.azimuth); }
+
+static void show_strip(const strip_t *strip) { bytes_word(strip->header, RADDLEHUE_STRIP_HEADER), word(strip->length), show_drawn(strip->drawn); }
+
+/* Azimuths as a strip has them, big-endian; the last may be cut. */
+static void put_azimuths(uint8_t *bytes, uint64_t length, drawn_t drawn) {
+    for (uint64_t i = 0; i < length; i++) {
+        bytes[i] = (uint8_t)(drawn_azimuth(drawn, i / 4) >> (24 - 8 * (i % 4)));
+    }
+}
+
+/* The bytes of a strip; none have a null pointer. */
+static const uint8_t *put_strip(uint8_t *bytes, const strip_t *strip) {
+    uint64_t header = strip->length < RADDLEHUE_STRIP_HEADER ? strip->length : RADDLEHUE_STRIP_HEADER;
+    __builtin_memcpy(bytes, strip->header, header);
+    put_azimuths(bytes + header, strip->length - header, strip->drawn);
+    return strip->length ? bytes : 0;
+}
+
+/* A day's azimuths; and where there are any the first of them, and the strip that is written of them. */
+static void show_day_azimuths(const int64_t n[8], uint32_t body, int64_t step, uint64_t length) {
+    const raddlehue_date_t *date = (const raddlehue_date_t *)(const void *)n;
+    const raddlehue_point_t *point = (const raddlehue_point_t *)(const void *)(n + 5);
+    uint32_t refusal;
+    poison(azimuths, sizeof azimuths), poison(written, sizeof written);
+    name("day_azimuths"), numbers(n, 5), word(body), numbers(n + 5, 3), word((uint64_t)step), word(length);
+    refusal = raddlehue_day_azimuths(date, body, point, step, length ? &azimuths[SIDE] : 0, length, lend());
+    show_lent(refusal, 1), show_long(azimuths, 4, MINUTES);
+    if (refusal == RADDLEHUE_ACCEPTED) {
+        const raddlehue_strip_t strip = {RADDLEHUE_AIR_NONE, body, date->year, date->month, date->day, point->longitude_e7, point->latitude_e7, step};
+        uint64_t count = lent[SIDE];
+        word(azimuths[SIDE]);
+        refusal = raddlehue_strip_write(&strip, &azimuths[SIDE], count, &written[SIDE], STRIP_ROOM, lend());
+        show_lent(refusal, 1), show_long(written, 1, STRIP_ROOM);
+    }
+    end_line();
+}
+
+static void show_strip_write(const int64_t n[8], uint64_t count, drawn_t drawn, uint64_t length) {
+    const raddlehue_strip_t *strip = (const raddlehue_strip_t *)(const void *)n;
+    uint32_t refusal;
+    for (uint64_t i = 0; i < count; i++) {
+        azimuths[i] = drawn_azimuth(drawn, i);
+    }
+    poison(written, sizeof written);
+    name("strip_write"), numbers(n, 8), word(count), show_drawn(drawn), word(length);
+    refusal = raddlehue_strip_write(strip, count ? azimuths : 0, count, length ? &written[SIDE] : 0, length, lend());
+    show_lent(refusal, 1), show_long(written, 1, STRIP_ROOM), end_line();
+}
+
+static void show_strip_read(const strip_t *strip) {
+    name("strip_read"), show_strip(strip);
+    show_lent(raddlehue_strip_read(put_strip(strips[0], strip), strip->length, lend()), 8), end_line();
+}
+
+/* The azimuth takes the lower half of its word: the upper stays poisoned. */
+static void show_strip_azimuth(uint64_t length, drawn_t drawn, uint64_t step) {
+    put_azimuths(strips[0], length, drawn);
+    name("strip_azimuth"), word(length), show_drawn(drawn), word(step);
+    show_lent(raddlehue_strip_azimuth(length ? strips[0] : 0, length, step, lend()), 1), end_line();
+}
+
+static void show_strip_find(const strip_t *first, const strip_t *second, const int64_t date[3]) {
+    const uint8_t *one = put_strip(strips[0], first), *two = put_strip(strips[1], second);
+    name("strip_find"), show_strip(first), show_strip(second), numbers(date, 3);
+    show_lent(raddlehue_strip_find(one, first->length, two, second->length, date[0], date[1], date[2], lend()), 3), end_line();
 }
 
 static void show_eclipse(const int64_t n[12]) {
@@ -292,20 +401,181 @@ static void random_batch(const int64_t n[12], uint32_t body) {
     show_batch(n, body, offsets, count, azimuths, elevations);
 }
 
-/* A day's numbers are a request's without its clock. A whole day is 1,440 places, and dear under emulation: most get a number outside its range, and are refused. It
- * is any but the day's, since 29 may be one. */
-static void random_day(const int64_t n[12], uint32_t body, int whole) {
-    static const int AT[8] = {0, 1, 2, 7, 8, 9, 10, 11};
-    int64_t day[8];
+/* A day's numbers are a request's without its clock. */
+static const int DAY_AT[8] = {0, 1, 2, 7, 8, 9, 10, 11};
+
+static void day_numbers(const int64_t n[12], int64_t day[8]) {
     for (int i = 0; i < 8; i++) {
-        day[i] = n[AT[i]];
+        day[i] = n[DAY_AT[i]];
     }
+}
+
+/* It is any but the day's, since 29 may be one. */
+static void damage_day(int64_t day[8]) {
+    int i = (int)below(7);
+    i += i >= 2;
+    day[i] = outside(FIELDS[DAY_AT[i]].lo, FIELDS[DAY_AT[i]].hi);
+}
+
+/* A whole day is 1,440 places, and dear under emulation: most get a number outside its range, and are refused. */
+static void random_day(const int64_t n[12], uint32_t body, int whole) {
+    int64_t day[8];
+    day_numbers(n, day);
     if (!whole) {
-        int i = (int)below(7);
-        i += i >= 2;
-        day[i] = outside(FIELDS[AT[i]].lo, FIELDS[AT[i]].hi);
+        damage_day(day);
     }
     show_day(day, body);
+}
+
+static const int64_t STEPS[4] = {1, 2, 5, 10};
+
+/* Likewise: most have too few entries for any step, or something that is refused before that. */
+static void random_day_azimuths(const int64_t n[12], uint32_t body, int whole, int64_t step) {
+    int64_t day[8];
+    day_numbers(n, day);
+    if (whole) {
+        show_day_azimuths(day, body, step, (uint64_t)field(RADDLEHUE_STRIP_STEPS(step), MINUTES));
+        return;
+    }
+    if (below(2)) {
+        damage_day(day);
+    }
+    switch (below(4)) {
+    case 0: step = between(-1, 11); break;
+    case 1: step += (int64_t)(next() << 32); break;
+    default: break;
+    }
+    show_day_azimuths(day, body, step, below(RADDLEHUE_STRIP_STEPS(10)));
+}
+
+static const range_t STRIP_FIELDS[8] = {
+    {0, 1}, {0, 1}, {1900, 2100}, {1, 12}, {1, 28}, {-1800000000, 1800000000}, {-900000000, 900000000}, {1, 10}};
+
+/* What a strip says, all of it good. */
+static void random_header(int64_t n[8]) {
+    for (int i = 0; i < 7; i++) {
+        n[i] = field(STRIP_FIELDS[i].lo, STRIP_FIELDS[i].hi);
+    }
+    n[7] = STEPS[below(4)];
+}
+
+/* So many azimuths, all of them good; or one, often the first or the last, is at an end of the range, or just beyond. */
+static drawn_t random_azimuths(uint64_t count, int good) {
+    static const uint32_t ENDS[6] = {0, 3599999999u, 3600000000u, 4294967294u, RADDLEHUE_NO_AZIMUTH_E7, 16909060};
+    drawn_t drawn;
+    drawn.seed = (uint32_t)next();
+    drawn.at = (uint32_t)(good || count == 0 ? (int64_t)count : field(0, (int64_t)count - 1));
+    drawn.azimuth = ENDS[below(6)];
+    return drawn;
+}
+
+/* Measured air, a step that is none, or any number outside its range. */
+static void damage_header(int64_t n[8]) {
+    uint64_t i = below(8);
+    switch (below(4)) {
+    case 0: n[0] = RADDLEHUE_AIR_MEASURED; break;
+    case 1: n[7] = between(0, 11); break;
+    default: n[i] = outside(STRIP_FIELDS[i].lo, STRIP_FIELDS[i].hi);
+    }
+}
+
+static void random_strip_write(void) {
+    int64_t n[8];
+    uint64_t count, length;
+    random_header(n);
+    count = (uint64_t)RADDLEHUE_STRIP_STEPS(n[7]);
+    count = below(8) ? count : below(MINUTES + 1);
+    length = RADDLEHUE_STRIP_HEADER + 4 * count;
+    length = below(4) ? (uint64_t)field((int64_t)length, STRIP_ROOM) : below(length);
+    for (uint64_t damages = below(4); damages > 1; damages--) {
+        damage_header(n);
+    }
+    show_strip_write(n, count, random_azimuths(count, below(2) != 0), length);
+}
+
+/* A strip of such a header, good but, now and then, for an azimuth. */
+static strip_t random_strip(const int64_t n[8]) {
+    static const int WIDTHS[10] = {2, 1, 1, 1, 2, 1, 1, 4, 4, 1};
+    const uint64_t length = (uint64_t)RADDLEHUE_STRIP_BYTES(n[7]);
+    const int64_t fields[10] = {(int64_t)length - 2, 1, n[0], n[1], n[2], n[3], n[4], n[5], n[6], n[7]};
+    strip_t strip;
+    uint8_t *to = strip.header;
+    for (int i = 0; i < 10; i++) {
+        for (int shift = 8 * WIDTHS[i] - 8; shift >= 0; shift -= 8) {
+            *to++ = (uint8_t)((uint64_t)fields[i] >> shift);
+        }
+    }
+    strip.length = length;
+    strip.drawn = random_azimuths((uint64_t)RADDLEHUE_STRIP_STEPS(n[7]), below(8) != 0);
+    return strip;
+}
+
+/* Cut or lengthened, with the length in its header or without; or another byte of its header. */
+static void damage_strip(strip_t *strip) {
+    uint64_t byte;
+    switch (below(4)) {
+    case 0: strip->length = below(STRIP_ROOM + 1); break;
+    case 1: strip->length += (uint64_t)between(-2, 2); break;
+    case 2:
+        strip->length = RADDLEHUE_STRIP_HEADER + 4 * below(RADDLEHUE_DAY_MINUTES + 1);
+        strip->header[0] = (uint8_t)((strip->length - 2) >> 8), strip->header[1] = (uint8_t)(strip->length - 2);
+        break;
+    default:
+        byte = below(RADDLEHUE_STRIP_HEADER);
+        strip->header[byte] = below(2) ? (uint8_t)next() : (uint8_t)(strip->header[byte] + 1);
+    }
+}
+
+/* One strip as it is, with each byte of its header changed in turn, with anything changed, and with both. */
+static void random_strip_reads(uint32_t turn) {
+    int64_t n[8];
+    strip_t strip, other;
+    random_header(n);
+    strip = random_strip(n);
+    show_strip_read(&strip);
+    other = strip;
+    other.header[turn % RADDLEHUE_STRIP_HEADER] ^= (uint8_t)between(1, 255);
+    show_strip_read(&other);
+    damage_strip(&strip), damage_strip(&other);
+    show_strip_read(&strip), show_strip_read(&other);
+}
+
+static void random_strip_azimuth(void) {
+    uint64_t length = below(41), step = below(10);
+    drawn_t drawn = random_azimuths(10, 0);
+    switch (below(8)) {
+    /* four times this passes 64 bits, or 32 */
+    case 0: step += (uint64_t)1 << 62; break;
+    case 1: step += (uint64_t)1 << 30; break;
+    case 2: step = next(); break;
+    default: step = below(2) ? step : drawn.at;
+    }
+    show_strip_azimuth(length, drawn, step);
+}
+
+/* Two strips of one day or of two, and a day of theirs or another. */
+static void random_strip_find(void) {
+    int64_t n[8], date[3];
+    strip_t first, second;
+    random_header(n);
+    first = random_strip(n);
+    for (int i = 0; i < 3; i++) {
+        date[i] = n[2 + i];
+    }
+    n[7] = STEPS[below(4)];
+    n[4] += below(2) ? between(-1, 1) : 0;
+    second = random_strip(n);
+    if (below(2)) {
+        date[2] = n[4];
+    }
+    if (below(4) == 0) {
+        uint64_t i = below(3);
+        date[i] += below(2) ? 1 : 256 * between(-2, 2);
+    }
+    if (below(4) == 0) {
+        damage_strip(below(2) ? &first : &second);
+    }
+    show_strip_find(&first, &second, date);
 }
 
 /* Hardly any moment has an eclipse: this one is within two hours and five degrees of one of 003's Table 4. */
@@ -350,6 +620,8 @@ void run_random(uint32_t count, uint64_t s) {
         show_instant(n);
         random_batch(n, code(2));
         random_day(n, code(2), i % 50 == 0);
+        random_day_azimuths(n, code(2), i % 50 == 25, STEPS[i / 50 % 4]);
+        random_strip_write(), random_strip_reads(i), random_strip_azimuth(), random_strip_find();
         show_eclipse(n);
         near_eclipse(n), damage(n, FIELDS, 12);
         show_eclipse(n);
@@ -456,13 +728,17 @@ static void run_vector(const char *text) {
             offsets[count++] = (uint32_t)decimal();
         }
         show_batch(n, body, offsets, count, azimuths, elevations);
-    } else if (is_kind(text, "day")) {
+    } else if (is_kind(text, "day") || is_kind(text, "azimuths")) {
         uint32_t body = *rest == 'm';
         is_kind(rest, body ? "moon" : "sun");
         for (int i = 0; i < 8; i++) {
             n[i] = decimal();
         }
-        show_day(n, body);
+        if (*text == 'd') {
+            show_day(n, body);
+        } else {
+            show_day_azimuths(n, body, 10, RADDLEHUE_STRIP_STEPS(10));
+        }
     } else if (is_kind(text, "eclipse")) {
         twelve(n);
         show_eclipse(n);

@@ -40,6 +40,35 @@ extern "C" {
         batch: *mut [u64; 2],
     ) -> u32;
     pub fn raddlehue_day(date: &[i64; 5], body: u32, point: &[i64; 3], elevations: *mut [i64; MINUTES], rise_set: *mut [u32; 4]) -> u32;
+    pub fn raddlehue_day_azimuths(
+        date: &[i64; 5],
+        body: u32,
+        point: &[i64; 3],
+        step: i64,
+        azimuths: *mut u32,
+        azimuths_length: u64,
+        count: *mut u64,
+    ) -> u32;
+    pub fn raddlehue_strip_write(
+        strip: &[i64; 8],
+        azimuths: *const u32,
+        azimuths_length: u64,
+        bytes: *mut u8,
+        bytes_length: u64,
+        written: *mut u64,
+    ) -> u32;
+    pub fn raddlehue_strip_read(bytes: *const u8, bytes_length: u64, strip: *mut [i64; 8]) -> u32;
+    pub fn raddlehue_strip_azimuth(azimuths: *const u8, azimuths_length: u64, step: u64, azimuth: *mut u32) -> u32;
+    pub fn raddlehue_strip_find(
+        first: *const u8,
+        first_length: u64,
+        second: *const u8,
+        second_length: u64,
+        year: i64,
+        month: i64,
+        day: i64,
+        part: *mut [u64; 3],
+    ) -> u32;
     pub fn raddlehue_eclipse(start: &[i64; 9], point: &[i64; 3], eclipse: *mut [i64; 4]) -> u32;
     pub fn raddlehue_covered_share(separation: i64, sun_radius: i64, moon_radius: i64, share: *mut i64) -> u32;
     pub fn raddlehue_middle(a: i64, b: i64, azimuth: *mut i64) -> u32;
@@ -79,6 +108,9 @@ pub const STANDARD: Air = Air { kind: 1, ..NO_AIR };
 pub const fn measured(pressure: f64, temperature: f64) -> Air {
     Air { kind: 2, pressure, temperature }
 }
+
+// What stands in a strip's azimuths where there is none.
+pub const NO_AZIMUTH: u32 = u32::MAX;
 
 // What stands in a batch's azimuths where there is none, and is the arctangent of two zeros.
 pub const NO_DIRECTION: i64 = i64::MAX;
@@ -172,29 +204,11 @@ pub fn shown_place(numbers: &[i64; 12], body: u32, air: Air) -> Answer<Seen<3>> 
 
 // Index and count. An empty list has a null pointer.
 pub fn batch(numbers: &[i64; 12], body: u32, offsets: &[u32], azimuths: &mut [i64], elevations: &mut [i64]) -> Answer<[i64; 2]> {
-    fn first(list: &mut [i64]) -> *mut i64 {
-        if list.is_empty() {
-            ptr::null_mut()
-        } else {
-            list.as_mut_ptr()
-        }
-    }
     let (start, point) = (start_of(numbers), point_of(numbers));
-    let first_offset = if offsets.is_empty() { ptr::null() } else { offsets.as_ptr() };
-    let lengths = [offsets.len(), azimuths.len(), elevations.len()].map(|length| length as u64);
+    let (offset, offsets_length) = handed(offsets);
+    let ((azimuth, azimuths_length), (elevation, elevations_length)) = (handed_mut(azimuths), handed_mut(elevations));
     poisoned(|at| unsafe {
-        raddlehue_batch(
-            start,
-            body,
-            point,
-            first_offset,
-            lengths[0],
-            first(azimuths),
-            lengths[1],
-            first(elevations),
-            lengths[2],
-            at.cast(),
-        )
+        raddlehue_batch(start, body, point, offset, offsets_length, azimuth, azimuths_length, elevation, elevations_length, at.cast())
     })
 }
 
@@ -223,6 +237,49 @@ pub fn day(numbers: &[i64; 8], body: u32) -> Answer<Day> {
 pub fn at_minute(numbers: &[i64; 8], minute: usize) -> [i64; 12] {
     let [year, month, day, ut1, delta_t, longitude, latitude, height] = *numbers;
     [year, month, day, minute as i64 / 60, minute as i64 % 60, 0, 0, ut1, delta_t, longitude, latitude, height]
+}
+
+// A slice as C is handed it; an empty one has a null pointer.
+fn handed<T>(list: &[T]) -> (*const T, u64) {
+    (if list.is_empty() { ptr::null() } else { list.as_ptr() }, list.len() as u64)
+}
+
+fn handed_mut<T>(list: &mut [T]) -> (*mut T, u64) {
+    (if list.is_empty() { ptr::null_mut() } else { list.as_mut_ptr() }, list.len() as u64)
+}
+
+// How many azimuths of a day were written, of a day's eight numbers.
+pub fn day_azimuths(numbers: &[i64; 8], body: u32, step: i64, azimuths: &mut [u32]) -> Answer<i64> {
+    let (date, point) = (numbers.first_chunk().unwrap(), numbers.last_chunk().unwrap());
+    let (first, length) = handed_mut(azimuths);
+    lent(POISON, |at| unsafe { raddlehue_day_azimuths(date, body, point, step, first, length, at.cast()) })
+}
+
+// A strip's header: air, body, year, month, day, longitude, latitude, step.
+pub type Header = [i64; 8];
+
+// How many bytes of a strip were written.
+pub fn strip_write(strip: &Header, azimuths: &[u32], bytes: &mut [u8]) -> Answer<i64> {
+    let (azimuth, azimuths_length) = handed(azimuths);
+    let (first, length) = handed_mut(bytes);
+    lent(POISON, |at| unsafe { raddlehue_strip_write(strip, azimuth, azimuths_length, first, length, at.cast()) })
+}
+
+pub fn strip_read(bytes: &[u8]) -> Answer<Header> {
+    let (first, length) = handed(bytes);
+    poisoned(|at| unsafe { raddlehue_strip_read(first, length, at) })
+}
+
+pub fn strip_azimuth(azimuths: &[u8], step: u64) -> Answer<u32> {
+    let (first, length) = handed(azimuths);
+    lent(POISON as u32, |at| unsafe { raddlehue_strip_azimuth(first, length, step, at) })
+}
+
+// Which strip, 1 or 2, and offset and length of its azimuth bytes.
+pub fn strip_find(first: &[u8], second: &[u8], date: [i64; 3]) -> Answer<[i64; 3]> {
+    let ((first, first_length), (second, second_length)) = (handed(first), handed(second));
+    let [year, month, day] = date;
+    poisoned(|at| unsafe { raddlehue_strip_find(first, first_length, second, second_length, year, month, day, at.cast()) })
 }
 
 // Separation, the Sun's radius, the Moon's and the covered share.

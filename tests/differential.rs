@@ -6,20 +6,26 @@
 // none), covered shares of three numbers, the leaves and the sums at an instant; for every fourth an eclipse, half of these near one that was; for every sixteenth a place is
 // moved east or west to where the body stands at that limit, and asked for on both sides, and to where it stands straight overhead or underfoot, if there is such a point then,
 // and asked for there, a unit beside and within a batch; of whole days, which are 1,440 places each, one for every 200 requests, and damaged ones, which cost nothing, for
-// every eighth.
+// every eighth; with these a strip that is written, read, damaged, looked up and written again (compared_strips.rs).
 // A refused call writes nothing: its memory stays poisoned. The first mismatch ends the run with the request that gave it, and so does a refusal that no request
-// of the run was given, a side of that limit, a body without an azimuth, a mark in a batch or a case of the share that none had (in a run of some thousands all are).
+// of the run was given, a side of that limit, a body without an azimuth, a mark in a batch, a case of the share or a kind of strip that none had (in a run of some thousands
+// all are).
 use std::env;
-use std::fmt::Debug;
-use std::process::exit;
 
 use raddlehue_reference as reference;
 
 mod archive;
+mod compared;
+mod compared_strips;
+mod random;
 mod random_days;
 mod random_eclipses;
 mod random_overhead;
+mod random_strips;
+mod reference_strips;
 use archive::*;
+use compared::*;
+use random::{Random, FIELDS};
 
 const FULL_TURN: i64 = 36_000_000_000;
 const QUARTER_TURN: i64 = 9_000_000_000;
@@ -27,68 +33,6 @@ const DEGREE: i64 = 100_000_000;
 
 // The furthest instant that the sums answer.
 const FURTHEST: i64 = 31_904_733_600;
-
-// SplitMix64: the same requests from the same seed on every machine.
-struct Random(u64);
-
-impl Random {
-    fn next(&mut self) -> u64 {
-        self.0 = self.0.wrapping_add(0x9e37_79b9_7f4a_7c15);
-        let mut z = self.0;
-        z = (z ^ (z >> 30)).wrapping_mul(0xbf58_476d_1ce4_e5b9);
-        z = (z ^ (z >> 27)).wrapping_mul(0x94d0_49bb_1331_11eb);
-        z ^ (z >> 31)
-    }
-
-    fn below(&mut self, count: u64) -> u64 {
-        self.next() % count
-    }
-
-    fn one_in(&mut self, count: u64) -> bool {
-        self.below(count) == 0
-    }
-
-    fn between(&mut self, lo: i64, hi: i64) -> i64 {
-        lo + self.below((hi - lo) as u64 + 1) as i64
-    }
-
-    // Within lo to hi, and more often than chance at either end.
-    fn field(&mut self, lo: i64, hi: i64) -> i64 {
-        match self.below(12) {
-            0 => lo,
-            1 => hi,
-            _ => self.between(lo, hi),
-        }
-    }
-
-    // Just outside lo to hi, or far.
-    fn outside(&mut self, lo: i64, hi: i64) -> i64 {
-        match self.below(8) {
-            0 => i64::MIN,
-            1 => i64::MAX,
-            2 => i64::MIN + self.below(1_000_000) as i64,
-            3 => i64::MAX - self.below(1_000_000) as i64,
-            4 => lo - 1,
-            5 => hi + 1,
-            _ => self.next() as i64,
-        }
-    }
-}
-
-const FIELDS: [(i64, i64); 12] = [
-    (1900, 2100),
-    (1, 12),
-    (1, 31),
-    (0, 23),
-    (0, 59),
-    (0, 59),
-    (0, 9),
-    (-9, 9),
-    (-80_000, 80_000),
-    (-1_800_000_000, 1_800_000_000),
-    (-900_000_000, 900_000_000),
-    (-500, 9_000),
-];
 
 #[derive(Clone, Copy, Debug)]
 struct Request {
@@ -186,26 +130,8 @@ fn kind_refusal(kind: u32) -> Result<(), u32> {
     if kind <= 2 { Ok(()) } else { Err(102) }
 }
 
-// What the archive has to answer: the values where there are some, the refusal and untouched memory where not.
-fn answer<const N: usize>(found: Result<[i64; N], u32>) -> Answer<[i64; N]> {
-    match found {
-        Ok(values) => (0, values),
-        Err(refusal) => (refusal, [POISON; N]),
-    }
-}
-
 fn answer_seen<T, const N: usize>(found: Result<(Option<T>, [i64; N]), u32>) -> Answer<Seen<N>> {
-    match found {
-        Ok((azimuth, numbers)) => (0, Seen { has_azimuth: u32::from(azimuth.is_some()), numbers }),
-        Err(refusal) => (refusal, Seen::UNWRITTEN),
-    }
-}
-
-fn answer_one(found: Result<i64, u32>) -> Answer<i64> {
-    match found {
-        Ok(value) => (0, value),
-        Err(refusal) => (refusal, POISON),
-    }
+    answer_or(found.map(|(azimuth, numbers)| Seen { has_azimuth: u32::from(azimuth.is_some()), numbers }), Seen::UNWRITTEN)
 }
 
 // How often each refusal was given, by the kind of the call.
@@ -231,14 +157,7 @@ struct Tally {
     // of the accepted eclipses that were drawn near one, and of the accepted triples, those of each case of the share
     eclipse_cases: [u64; 4],
     share_cases: [u64; 4],
-}
-
-fn same<T: PartialEq + Debug>(what: &str, input: impl Debug, ours: Answer<T>, expected: Answer<T>, seen: &mut [u64; 256]) {
-    if ours != expected {
-        eprintln!("differential: {what}\n  of {input:?}\n  archive   {ours:?}\n  reference {expected:?}");
-        exit(1)
-    }
-    seen[ours.0 as usize] += 1;
+    strips: compared_strips::Tally,
 }
 
 fn place_of(asked: &Request, seen: &mut Tally) -> Answer<Seen<2>> {
@@ -509,29 +428,6 @@ fn date(random: &mut Random, asked: &Request, seen: &mut Tally) {
     same("day count", (year, month, day), day_count(year, month, day), expected, &mut seen.instants);
 }
 
-// Every refusal of a kind of call, each to be seen; the accepted too.
-fn complete(what: &str, seen: &[u64; 256], refusals: impl IntoIterator<Item = usize>) -> String {
-    let mut counts = vec![];
-    for refusal in [0].into_iter().chain(refusals) {
-        if seen[refusal] == 0 {
-            eprintln!("differential: {what}: no request of this run was given {refusal}");
-            exit(1);
-        }
-        counts.push(format!("{refusal}: {}", seen[refusal]));
-    }
-    format!("    {what} {}", counts.join(", "))
-}
-
-// Every case of a kind of call, each to be drawn.
-fn all_drawn(what: &str, names: &[&str], counts: &[u64]) -> String {
-    if counts.contains(&0) {
-        eprintln!("differential: {what}: {names:?} were drawn {counts:?} times in this run");
-        exit(1);
-    }
-    let pairs: Vec<String> = names.iter().zip(counts).map(|(name, count)| format!("{name} {count}")).collect();
-    format!("    {what} {}", pairs.join(", "))
-}
-
 fn draw(random: &mut Random, turn: u64, seen: &mut Tally) {
     let mut asked = request(random);
     place_of(&asked, seen);
@@ -552,6 +448,7 @@ fn draw(random: &mut Random, turn: u64, seen: &mut Tally) {
     }
     if turn % 8 == 0 {
         day_of(random_days::damaged(random), seen);
+        compared_strips::draw(random, turn / 8, &mut seen.strips);
     }
     if turn % 200 == 0 {
         day_of(random_days::accepted(random), seen);
@@ -560,7 +457,7 @@ fn draw(random: &mut Random, turn: u64, seen: &mut Tally) {
 
 // What was drawn, a line for each kind.
 fn summary(seen: &Tally) -> Vec<String> {
-    vec![
+    let mut lines = vec![
         complete("places", &seen.places, (1..=11).chain([101, 102])),
         complete("instants and dates", &seen.instants, 1..=6),
         complete("batches", &seen.batches, (1..=9).chain([12, 13, 101])),
@@ -577,7 +474,9 @@ fn summary(seen: &Tally) -> Vec<String> {
         all_drawn("eclipses near one that was,", &random_eclipses::CASES, &seen.eclipse_cases),
         complete("shares", &seen.shares, [105]),
         all_drawn("shares of three numbers,", &random_eclipses::CASES, &seen.share_cases),
-    ]
+    ];
+    lines.extend(compared_strips::summary(&seen.strips));
+    lines
 }
 
 fn main() {
@@ -602,6 +501,7 @@ fn main() {
         crossings: [0; 3],
         eclipse_cases: [0; 4],
         share_cases: [0; 4],
+        strips: compared_strips::NO_TALLY,
     };
     for turn in 0..count {
         draw(&mut random, turn, &mut seen);

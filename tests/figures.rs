@@ -4,6 +4,7 @@
 //     figures SIDE CALL COUNT  so many calls of one side and nothing else, to be counted by callgrind
 use std::env;
 use std::hint::black_box;
+use std::sync::OnceLock;
 use std::time::Instant;
 
 use raddlehue_reference as reference;
@@ -149,6 +150,110 @@ fn share_of(call: u64) -> i64 {
     share
 }
 
+// The azimuths of a day at a step, all of them in one number.
+fn azimuths_of(step: i64, body: u32, call: u64) -> i64 {
+    let [year, month, day, .., ut1, delta_t] = numbers(call);
+    let (mut azimuths, mut count) = ([0; MINUTES], 0);
+    unsafe { raddlehue_day_azimuths(&[year, month, day, ut1, delta_t], body, &POINT, step, azimuths.as_mut_ptr(), MINUTES as u64, &mut count) };
+    azimuths.iter().fold(count as i64, |sum, &entry| sum ^ i64::from(entry))
+}
+
+fn reference_azimuths(step: i64, body: u32, call: u64) -> i64 {
+    let [year, month, day, .., ut1, delta_t] = numbers(call);
+    let date = reference::Date { year, month, day, ut1, delta_t };
+    let mut azimuths = [0; MINUTES];
+    let count = reference::day_azimuths(date, reference_body(body), reference_point(POINT), step, &mut azimuths);
+    azimuths.iter().fold(count.map_or(0, |count| count as i64), |sum, &entry| sum ^ i64::from(entry))
+}
+
+const STRIP_BYTES: usize = STRIP_HEADER + 4 * MINUTES;
+const STRIP_HEADER: usize = 18;
+
+// A strip of step 1, of another date for each call.
+fn strip_at(call: u64) -> reference::Strip {
+    let ([year, month, day, ..], [longitude, latitude, _]) = (numbers(call), POINT);
+    reference::Strip { air: reference::Air::None, body: reference::Body::Sun, year, month, day, longitude, latitude, step: 1 }
+}
+
+// Azimuths once round the sky, and two strips of them, of two days.
+struct Strips {
+    azimuths: [u32; MINUTES],
+    bytes: [[u8; STRIP_BYTES]; 2],
+}
+
+fn strips() -> &'static Strips {
+    static STRIPS: OnceLock<Strips> = OnceLock::new();
+    STRIPS.get_or_init(|| {
+        let azimuths = std::array::from_fn(|minute| 2_499_999 * minute as u32);
+        let bytes = [0, 1].map(|call| {
+            let mut bytes = [0; STRIP_BYTES];
+            reference::write_strip(&strip_at(call), &azimuths, &mut bytes).expect("a good strip");
+            bytes
+        });
+        Strips { azimuths, bytes }
+    })
+}
+
+// What is written is not read again; the buffer is shown, so that it is written all the same.
+fn shown_bytes(written: i64, bytes: &[u8; STRIP_BYTES]) -> i64 {
+    black_box(bytes);
+    written ^ i64::from(bytes[8]) ^ i64::from(bytes[STRIP_BYTES - 1])
+}
+
+fn written_strip(call: u64) -> i64 {
+    let reference::Strip { year, month, day, longitude, latitude, step, .. } = strip_at(call);
+    let (mut bytes, mut written, azimuths) = ([0; STRIP_BYTES], 0, &strips().azimuths);
+    let header = [0, 0, year, month, day, longitude, latitude, step];
+    unsafe { raddlehue_strip_write(&header, azimuths.as_ptr(), MINUTES as u64, bytes.as_mut_ptr(), STRIP_BYTES as u64, &mut written) };
+    shown_bytes(written as i64, &bytes)
+}
+
+fn reference_written_strip(call: u64) -> i64 {
+    let mut bytes = [0; STRIP_BYTES];
+    let written = reference::write_strip(&strip_at(call), &strips().azimuths, &mut bytes);
+    shown_bytes(written.map_or(0, |written| written as i64), &bytes)
+}
+
+// One of the two strips, by turns.
+fn strip_bytes(call: u64) -> &'static [u8; STRIP_BYTES] {
+    &strips().bytes[call as usize % 2]
+}
+
+fn strip_read_of(call: u64) -> i64 {
+    let mut header = [0; 8];
+    unsafe { raddlehue_strip_read(strip_bytes(call).as_ptr(), STRIP_BYTES as u64, &mut header) };
+    header.iter().fold(0, |sum, number| sum ^ number)
+}
+
+fn reference_strip_read(call: u64) -> i64 {
+    let found = reference::read_strip(black_box(&strip_bytes(call)[..]));
+    found.map_or(0, |(strip, _)| strip.year ^ strip.month ^ strip.day ^ strip.longitude ^ strip.latitude ^ strip.step)
+}
+
+// The date is the first's or the second's, by turns.
+fn strip_found(call: u64) -> i64 {
+    let ([year, month, day, ..], [first, second]) = (numbers(call % 2), &strips().bytes);
+    let (length, mut part) = (STRIP_BYTES as u64, [0; 3]);
+    unsafe { raddlehue_strip_find(first.as_ptr(), length, second.as_ptr(), length, year, month, day, &mut part) };
+    (part[0] ^ part[2]) as i64
+}
+
+fn reference_strip_found(call: u64) -> i64 {
+    let ([year, month, day, ..], [first, second]) = (numbers(call % 2), &strips().bytes);
+    let found = reference::find_strip(black_box(&first[..]), black_box(&second[..]), [year, month, day]);
+    found.map_or(0, |(strip, azimuths)| (strip ^ azimuths.len()) as i64)
+}
+
+fn strip_azimuth_of(call: u64) -> i64 {
+    let (azimuths, mut azimuth) = (&strip_bytes(call)[STRIP_HEADER..], 0);
+    unsafe { raddlehue_strip_azimuth(azimuths.as_ptr(), azimuths.len() as u64, call * 37 % MINUTES as u64, &mut azimuth) };
+    i64::from(azimuth)
+}
+
+fn reference_strip_azimuth(call: u64) -> i64 {
+    reference::strip_azimuth(black_box(&strip_bytes(call)[STRIP_HEADER..]), call * 37 % MINUTES as u64).map_or(0, i64::from)
+}
+
 // A sum's answer, one of its numbers.
 fn sums(export: unsafe extern "C" fn(i64, *mut [i64; 3]) -> u32, call: u64, at: usize) -> i64 {
     let mut sums = [0; 3];
@@ -177,7 +282,7 @@ struct Call {
     reference: fn(u64) -> i64,
 }
 
-const CALLS: [Call; 17] = [
+const CALLS: [Call; 25] = [
     Call { name: "place of the Sun", places: 1, ours: |call| place_of(0, call), reference: |call| reference_place(0, call) },
     Call { name: "place of the Moon", places: 1, ours: |call| place_of(1, call), reference: |call| reference_place(1, call) },
     Call { name: "shown place of the Sun", places: 1, ours: |call| shown_of(0, call), reference: |call| reference_shown(0, call) },
@@ -203,6 +308,34 @@ const CALLS: [Call; 17] = [
         ours: share_of,
         reference: |call| reference::covered_share(separation(call), SUN_RADIUS, MOON_RADIUS),
     },
+    Call {
+        name: "a day's azimuths at step 1, Sun, each",
+        places: 1440,
+        ours: |call| azimuths_of(1, 0, call),
+        reference: |call| reference_azimuths(1, 0, call),
+    },
+    Call {
+        name: "a day's azimuths at step 1, Moon, each",
+        places: 1440,
+        ours: |call| azimuths_of(1, 1, call),
+        reference: |call| reference_azimuths(1, 1, call),
+    },
+    Call {
+        name: "a day's azimuths at step 10, Sun, each",
+        places: 144,
+        ours: |call| azimuths_of(10, 0, call),
+        reference: |call| reference_azimuths(10, 0, call),
+    },
+    Call {
+        name: "a day's azimuths at step 10, Moon, each",
+        places: 144,
+        ours: |call| azimuths_of(10, 1, call),
+        reference: |call| reference_azimuths(10, 1, call),
+    },
+    Call { name: "a strip of step 1 written", places: 1, ours: written_strip, reference: reference_written_strip },
+    Call { name: "a strip of step 1 read", places: 1, ours: strip_read_of, reference: reference_strip_read },
+    Call { name: "a date looked up in two strips of step 1", places: 1, ours: strip_found, reference: reference_strip_found },
+    Call { name: "an azimuth of a strip", places: 1, ours: strip_azimuth_of, reference: reference_strip_azimuth },
     Call {
         name: "sums of the Sun",
         places: 1,

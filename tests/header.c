@@ -46,6 +46,15 @@ static const raddlehue_point_t late_point = {-243466823, -65708847, 6033};
 static const raddlehue_date_t longest_day = {2009, 6, 21, 0, 659};
 static const raddlehue_point_t greenwich = {0, 514769000, 46};
 
+/* sun 1900 1 1 0 0 0 0 -9 -79999 -1792408461 -230700717 -500 none: straight overhead at minute 0 */
+static const raddlehue_date_t overhead_date = {1900, 1, 1, -9, -79999};
+static const raddlehue_point_t overhead_point = {-1792408461, -230700717, -500};
+
+/* A strip of ten minutes, and its header by hand from 02: 592 bytes follow the length. */
+static const raddlehue_strip_t ten_minutes = {RADDLEHUE_AIR_NONE, RADDLEHUE_MOON, 2003, 10, 17, -1051786000, 397424760, 10};
+static const uint8_t ten_minutes_header[RADDLEHUE_STRIP_HEADER] = {
+    0x02, 0x50, 1, 0, 1, 0x07, 0xd3, 10, 17, 0xc1, 0x4f, 0x04, 0xf0, 0x17, 0xb0, 0x38, 0x78, 10};
+
 /* 003, Table 4, its first eclipse and its last: the whole Sun, and a ring. */
 static const raddlehue_start_t whole_start = {2009, 7, 22, 2, 33, 0, 0, 0, 664};
 static const raddlehue_point_t whole_point = {1433617000, 246117000, 0};
@@ -70,6 +79,9 @@ static int constants(void)
     CHECK(RADDLEHUE_SECOND == 10 && RADDLEHUE_DEGREE_E7 == 10000000 && RADDLEHUE_DEGREE_E8 == 100000000);
     CHECK(RADDLEHUE_DAY_MINUTES == 1440 && RADDLEHUE_RISE_SET_E8 == -83330000 && RADDLEHUE_LOWEST_REFRACTED_E8 == -83337000);
     CHECK(RADDLEHUE_NO_DIRECTION_E8 == (int64_t)(~(uint64_t)0 >> 1) && sizeof(RADDLEHUE_NO_DIRECTION_E8) == sizeof(int64_t));
+    CHECK(RADDLEHUE_STRIP_HEADER == 18 && RADDLEHUE_STRIP_STEPS(1) == 1440 && RADDLEHUE_STRIP_STEPS(2) == 720 && RADDLEHUE_STRIP_STEPS(5) == 288);
+    CHECK(RADDLEHUE_STRIP_STEPS(5 + 5) == 144 && RADDLEHUE_STRIP_BYTES(1) == 5778 && RADDLEHUE_STRIP_BYTES(5 + 5) == 594);
+    CHECK(RADDLEHUE_NO_AZIMUTH_E7 == (uint32_t)~(uint32_t)0 && sizeof(RADDLEHUE_NO_AZIMUTH_E7) == sizeof(uint32_t));
     CHECK(RADDLEHUE_SUN == 0 && RADDLEHUE_MOON == 1);
     CHECK(RADDLEHUE_AIR_NONE == 0 && RADDLEHUE_AIR_STANDARD == 1 && RADDLEHUE_AIR_MEASURED == 2);
     return 0;
@@ -88,12 +100,18 @@ static int sizes(void)
     CHECK(sizeof(raddlehue_batch_t) == 2 * sizeof(uint64_t));
     CHECK(sizeof(raddlehue_date_t) == 5 * sizeof(int64_t));
     CHECK(sizeof(raddlehue_rise_set_t) == 4 * sizeof(uint32_t));
+    CHECK(sizeof(raddlehue_strip_t) == 8 * sizeof(int64_t));
+    CHECK(offsetof(raddlehue_strip_t, air) == 0 && offsetof(raddlehue_strip_t, body) == 8 && offsetof(raddlehue_strip_t, year) == 16);
+    CHECK(offsetof(raddlehue_strip_t, month) == 24 && offsetof(raddlehue_strip_t, day) == 32 && offsetof(raddlehue_strip_t, longitude_e7) == 40);
+    CHECK(offsetof(raddlehue_strip_t, latitude_e7) == 48 && offsetof(raddlehue_strip_t, step_minutes) == 56);
+    CHECK(sizeof(raddlehue_strip_part_t) == 3 * sizeof(uint64_t) && offsetof(raddlehue_strip_part_t, strip) == 0);
+    CHECK(offsetof(raddlehue_strip_part_t, offset) == 8 && offsetof(raddlehue_strip_part_t, length) == 16);
     CHECK(sizeof(raddlehue_eclipse_t) == 4 * sizeof(int64_t));
     CHECK(sizeof(raddlehue_instant_t) == 2 * sizeof(int64_t));
     CHECK(sizeof(raddlehue_moon_sums_t) == 3 * sizeof(int64_t));
     CHECK(sizeof(raddlehue_sun_sums_t) == 3 * sizeof(int64_t));
     CHECK(sizeof(raddlehue_nutation_t) == 3 * sizeof(int64_t));
-    CHECK(sizeof(int64_t) == 8 && sizeof(double) == 8 && sizeof(uint32_t) == 4);
+    CHECK(sizeof(int64_t) == 8 && sizeof(double) == 8 && sizeof(uint32_t) == 4 && sizeof(uint8_t) == 1);
     return 0;
 }
 
@@ -106,10 +124,12 @@ static int texts(void)
 {
     uint32_t refusal;
     for (refusal = 0; refusal < 300; refusal++)
-        CHECK(known(refusal) == (refusal <= 16 || (101 <= refusal && refusal <= 105)));
+        CHECK(known(refusal) == (refusal <= 16 || (20 <= refusal && refusal <= 28) || (101 <= refusal && refusal <= 106)));
     CHECK(!known(0xffffffffu));
     CHECK(strcmp(raddlehue_refusal_text(RADDLEHUE_ACCEPTED), "accepted") == 0);
     CHECK(strcmp(raddlehue_refusal_text(RADDLEHUE_YEAR), "the year is not 1900 to 2100") == 0);
+    CHECK(strcmp(raddlehue_refusal_text(RADDLEHUE_STRIP_STEP), "the step is not 1, 2, 5 or 10 minutes") == 0);
+    CHECK(strcmp(raddlehue_refusal_text(RADDLEHUE_NO_STEP), "the strip has no such step") == 0);
     return 0;
 }
 
@@ -288,7 +308,7 @@ static int empty_batch(void)
 }
 
 /* A minute of the day as a moment of its own. */
-static int64_t elevation_at(raddlehue_date_t date, int64_t minute, uint32_t body, raddlehue_point_t point)
+static raddlehue_place_answer_t place_at(raddlehue_date_t date, int64_t minute, uint32_t body, raddlehue_point_t point)
 {
     raddlehue_start_t start = {0, 0, 0, 0, 0, 0, 0, 0, 0};
     start.year = date.year;
@@ -298,7 +318,7 @@ static int64_t elevation_at(raddlehue_date_t date, int64_t minute, uint32_t body
     start.minute = minute % 60;
     start.ut1_tenths = date.ut1_tenths;
     start.delta_t_tenths = date.delta_t_tenths;
-    return raddlehue_place_of(start, body, point, standard).elevation_e8;
+    return raddlehue_place_of(start, body, point, standard);
 }
 
 static int rises_and_sets(raddlehue_day_answer_t answer, uint32_t has_rise, uint32_t rise_minute, uint32_t has_set, uint32_t set_minute)
@@ -316,11 +336,11 @@ static int day(void)
     CHECK(raddlehue_day(&longest_day, RADDLEHUE_SUN, &greenwich, elevations, &rise_set) == RADDLEHUE_ACCEPTED);
     CHECK(rise_set.has_rise == 1 && rise_set.rise_minute == 223 && rise_set.has_set == 1 && rise_set.set_minute == 1221);
     for (minute = 0; minute < RADDLEHUE_DAY_MINUTES; minute++)
-        CHECK(elevations[minute] == elevation_at(longest_day, minute, RADDLEHUE_SUN, greenwich));
+        CHECK(elevations[minute] == place_at(longest_day, minute, RADDLEHUE_SUN, greenwich).elevation_e8);
     CHECK(elevations[222] < RADDLEHUE_RISE_SET_E8 && RADDLEHUE_RISE_SET_E8 <= elevations[223]);
     CHECK(elevations[1220] >= RADDLEHUE_RISE_SET_E8 && RADDLEHUE_RISE_SET_E8 > elevations[1221]);
     CHECK(rises_and_sets(raddlehue_day_of(longest_day, RADDLEHUE_MOON, greenwich, elevations), 1, 108, 1, 1172));
-    CHECK(elevations[719] == elevation_at(longest_day, 719, RADDLEHUE_MOON, greenwich));
+    CHECK(elevations[719] == place_at(longest_day, 719, RADDLEHUE_MOON, greenwich).elevation_e8);
     CHECK(elevations[RADDLEHUE_DAY_MINUTES] == -7);
     return 0;
 }
@@ -380,6 +400,366 @@ static int refused_day(void)
     CHECK(answer.refusal == RADDLEHUE_YEAR && answer.has_rise == 0 && answer.rise_minute == 0 && answer.has_set == 0 && answer.set_minute == 0);
     for (minute = 0; minute < RADDLEHUE_DAY_MINUTES; minute++)
         CHECK(elevations[minute] == -7);
+    return 0;
+}
+
+/* A minute's azimuth as a strip has it: rounded down, or the mark. */
+static uint32_t azimuth_at(raddlehue_date_t date, int64_t minute, uint32_t body, raddlehue_point_t point)
+{
+    const raddlehue_place_answer_t place = place_at(date, minute, body, point);
+    return place.has_azimuth ? (uint32_t)(place.azimuth_if_any_e8 / 10) : RADDLEHUE_NO_AZIMUTH_E7;
+}
+
+/* Every step's azimuth is the place's, and the entries behind the last step are left alone. */
+static int day_azimuths(void)
+{
+    const int64_t steps[4] = {1, 2, 5, 10};
+    uint32_t azimuths[RADDLEHUE_DAY_MINUTES + 1];
+    int64_t kind, entry, count;
+    for (kind = 0; kind < 4; kind++) {
+        const uint32_t body = kind % 2 ? RADDLEHUE_MOON : RADDLEHUE_SUN;
+        uint64_t told = 77;
+        for (entry = 0; entry <= RADDLEHUE_DAY_MINUTES; entry++)
+            azimuths[entry] = 7;
+        CHECK(raddlehue_day_azimuths(&longest_day, body, &greenwich, steps[kind], azimuths, RADDLEHUE_DAY_MINUTES + 1, &told) == RADDLEHUE_ACCEPTED);
+        count = RADDLEHUE_STRIP_STEPS(steps[kind]);
+        CHECK(told == (uint64_t)count);
+        for (entry = 0; entry < count; entry++)
+            CHECK(azimuths[entry] == azimuth_at(longest_day, entry * steps[kind], body, greenwich));
+        for (; entry <= RADDLEHUE_DAY_MINUTES; entry++)
+            CHECK(azimuths[entry] == 7);
+    }
+    return 0;
+}
+
+/* As many entries as there are steps are enough; and a step without an azimuth has the mark, and no other has it. */
+static int day_without_an_azimuth(void)
+{
+    uint32_t azimuths[RADDLEHUE_STRIP_STEPS(10)];
+    int64_t entry;
+    const raddlehue_day_azimuths_answer_t answer =
+        raddlehue_day_azimuths_of(overhead_date, RADDLEHUE_SUN, overhead_point, 10, azimuths, RADDLEHUE_STRIP_STEPS(10));
+    CHECK(answer.refusal == RADDLEHUE_ACCEPTED && answer.count == RADDLEHUE_STRIP_STEPS(10));
+    CHECK(azimuths[0] == RADDLEHUE_NO_AZIMUTH_E7);
+    for (entry = 1; entry < RADDLEHUE_STRIP_STEPS(10); entry++)
+        CHECK(azimuths[entry] < 3600000000u && azimuths[entry] == azimuth_at(overhead_date, 10 * entry, RADDLEHUE_SUN, overhead_point));
+    return 0;
+}
+
+static int refused_day_azimuths(void)
+{
+    const int64_t no_steps[8] = {0, 3, 4, 11, -1, 1440, 4294967297, (int64_t)(~(uint64_t)0 >> 1)};
+    raddlehue_date_t date = longest_day;
+    raddlehue_point_t point = greenwich;
+    raddlehue_day_azimuths_answer_t answer;
+    uint32_t azimuths[RADDLEHUE_STRIP_STEPS(10)];
+    uint64_t told = 77;
+    int64_t entry;
+    for (entry = 0; entry < RADDLEHUE_STRIP_STEPS(10); entry++)
+        azimuths[entry] = 7;
+    CHECK(raddlehue_day_azimuths(&date, RADDLEHUE_SUN, &point, 10, azimuths, 143, &told) == RADDLEHUE_STRIP_BUFFER);
+    CHECK(raddlehue_day_azimuths(&date, RADDLEHUE_SUN, &point, 5, azimuths, 144, &told) == RADDLEHUE_STRIP_BUFFER);
+    CHECK(raddlehue_day_azimuths(&date, RADDLEHUE_SUN, &point, 10, 0, 0, &told) == RADDLEHUE_STRIP_BUFFER);
+    for (entry = 0; entry < 8; entry++)
+        CHECK(raddlehue_day_azimuths(&date, RADDLEHUE_SUN, &point, no_steps[entry], 0, 0, &told) == RADDLEHUE_STRIP_STEP);
+    point.height_metres = 9001;
+    CHECK(raddlehue_day_azimuths(&date, RADDLEHUE_SUN, &point, 3, azimuths, 143, &told) == RADDLEHUE_HEIGHT);
+    point.latitude_e7 = 900000001;
+    CHECK(raddlehue_day_azimuths(&date, RADDLEHUE_SUN, &point, 3, azimuths, 143, &told) == RADDLEHUE_LATITUDE);
+    point.longitude_e7 = -1800000001;
+    CHECK(raddlehue_day_azimuths(&date, RADDLEHUE_SUN, &point, 3, azimuths, 143, &told) == RADDLEHUE_LONGITUDE);
+    date.delta_t_tenths = 80001;
+    CHECK(raddlehue_day_azimuths(&date, RADDLEHUE_SUN, &point, 3, azimuths, 143, &told) == RADDLEHUE_DELTA_T);
+    date.ut1_tenths = 10;
+    CHECK(raddlehue_day_azimuths(&date, RADDLEHUE_SUN, &point, 3, azimuths, 143, &told) == RADDLEHUE_UT1);
+    date.day = 31;
+    CHECK(raddlehue_day_azimuths(&date, RADDLEHUE_SUN, &point, 3, azimuths, 143, &told) == RADDLEHUE_DAY);
+    date.month = 13;
+    CHECK(raddlehue_day_azimuths(&date, RADDLEHUE_SUN, &point, 3, azimuths, 143, &told) == RADDLEHUE_MONTH);
+    date.year = 2101;
+    CHECK(raddlehue_day_azimuths(&date, RADDLEHUE_SUN, &point, 3, azimuths, 143, &told) == RADDLEHUE_YEAR);
+    CHECK(raddlehue_day_azimuths(&date, 2, &point, 3, azimuths, 143, &told) == RADDLEHUE_UNKNOWN_BODY);
+    answer = raddlehue_day_azimuths_of(date, RADDLEHUE_MOON, point, 10, azimuths, 144);
+    CHECK(answer.refusal == RADDLEHUE_YEAR && answer.count == 0 && told == 77);
+    for (entry = 0; entry < RADDLEHUE_STRIP_STEPS(10); entry++)
+        CHECK(azimuths[entry] == 7);
+    return 0;
+}
+
+/* The azimuths of the strip of ten minutes: both ends of the range, the mark, and one whose four bytes differ. */
+static void fill_azimuths(uint32_t *azimuths)
+{
+    uint32_t entry;
+    for (entry = 0; entry < RADDLEHUE_STRIP_STEPS(10); entry++)
+        azimuths[entry] = entry * 25000000;
+    azimuths[1] = 3599999999u;
+    azimuths[2] = RADDLEHUE_NO_AZIMUTH_E7;
+    azimuths[143] = 0x01020304;
+}
+
+/* The strip of ten minutes, and whether it was accepted and as many bytes were written as it has. */
+static int make_strip(raddlehue_strip_t strip, uint8_t *bytes, uint64_t length)
+{
+    uint32_t azimuths[RADDLEHUE_STRIP_STEPS(10)];
+    raddlehue_strip_write_answer_t answer;
+    fill_azimuths(azimuths);
+    answer = raddlehue_strip_write_of(strip, azimuths, RADDLEHUE_STRIP_STEPS(10), bytes, length);
+    return answer.refusal == RADDLEHUE_ACCEPTED && answer.written == RADDLEHUE_STRIP_BYTES(10);
+}
+
+static int all_are(const uint8_t *bytes, uint64_t length, uint8_t byte)
+{
+    while (length > 0 && bytes[length - 1] == byte)
+        length--;
+    return length == 0;
+}
+
+/* The bytes are those of 02, and what lies behind them is left alone; the smallest buffer is enough. */
+static int strip_write(void)
+{
+    uint32_t azimuths[RADDLEHUE_STRIP_STEPS(10)], entry;
+    uint8_t bytes[RADDLEHUE_STRIP_BYTES(10) + 5], smallest[RADDLEHUE_STRIP_BYTES(10)];
+    uint64_t written = 77;
+    fill_azimuths(azimuths);
+    memset(bytes, 0x5a, sizeof bytes);
+    CHECK(raddlehue_strip_write(&ten_minutes, azimuths, RADDLEHUE_STRIP_STEPS(10), bytes, sizeof bytes, &written) == RADDLEHUE_ACCEPTED);
+    CHECK(written == RADDLEHUE_STRIP_BYTES(10) && memcmp(bytes, ten_minutes_header, sizeof ten_minutes_header) == 0);
+    for (entry = 0; entry < RADDLEHUE_STRIP_STEPS(10); entry++) {
+        const uint8_t *four = bytes + RADDLEHUE_STRIP_HEADER + 4 * entry;
+        CHECK(four[0] == azimuths[entry] >> 24 && four[1] == (azimuths[entry] >> 16 & 255));
+        CHECK(four[2] == (azimuths[entry] >> 8 & 255) && four[3] == (azimuths[entry] & 255));
+    }
+    CHECK(all_are(bytes + RADDLEHUE_STRIP_BYTES(10), 5, 0x5a));
+    CHECK(make_strip(ten_minutes, smallest, sizeof smallest) && memcmp(bytes, smallest, sizeof smallest) == 0);
+    return 0;
+}
+
+/* The later faults first, so that each refusal goes before those that are found already. */
+static int refused_strip_write(void)
+{
+    raddlehue_strip_t strip = ten_minutes;
+    uint32_t azimuths[RADDLEHUE_STRIP_STEPS(10) + 1];
+    uint8_t bytes[RADDLEHUE_STRIP_BYTES(10)];
+    uint64_t written = 77;
+    raddlehue_strip_write_answer_t answer;
+    fill_azimuths(azimuths);
+    azimuths[144] = 0;
+    memset(bytes, 0x5a, sizeof bytes);
+    CHECK(raddlehue_strip_write(&strip, azimuths, 144, bytes, 593, &written) == RADDLEHUE_STRIP_BUFFER);
+    CHECK(raddlehue_strip_write(&strip, azimuths, 144, 0, 0, &written) == RADDLEHUE_STRIP_BUFFER);
+    azimuths[143] = 3600000000u;
+    CHECK(raddlehue_strip_write(&strip, azimuths, 144, bytes, 593, &written) == RADDLEHUE_STRIP_AZIMUTH);
+    azimuths[143] = RADDLEHUE_NO_AZIMUTH_E7 - 1;
+    CHECK(raddlehue_strip_write(&strip, azimuths, 144, bytes, sizeof bytes, &written) == RADDLEHUE_STRIP_AZIMUTH);
+    CHECK(raddlehue_strip_write(&strip, azimuths, 143, bytes, 593, &written) == RADDLEHUE_STRIP_LENGTH);
+    CHECK(raddlehue_strip_write(&strip, azimuths, 145, bytes, 593, &written) == RADDLEHUE_STRIP_LENGTH);
+    CHECK(raddlehue_strip_write(&strip, 0, 0, bytes, 593, &written) == RADDLEHUE_STRIP_LENGTH);
+    strip.latitude_e7 = -900000001;
+    CHECK(raddlehue_strip_write(&strip, azimuths, 143, bytes, 593, &written) == RADDLEHUE_STRIP_POINT);
+    strip.latitude_e7 = -900000000;
+    strip.step_minutes = 3;
+    CHECK(raddlehue_strip_write(&strip, azimuths, 143, bytes, 593, &written) == RADDLEHUE_STRIP_STEP);
+    strip.longitude_e7 = 1800000001;
+    CHECK(raddlehue_strip_write(&strip, azimuths, 143, bytes, 593, &written) == RADDLEHUE_STRIP_POINT);
+    strip.day = 32;
+    CHECK(raddlehue_strip_write(&strip, azimuths, 143, bytes, 593, &written) == RADDLEHUE_STRIP_DATE);
+    strip.air = RADDLEHUE_AIR_MEASURED;
+    CHECK(raddlehue_strip_write(&strip, azimuths, 143, bytes, 593, &written) == RADDLEHUE_STRIP_AIR_OR_BODY);
+    strip.air = 4294967296;
+    CHECK(raddlehue_strip_write(&strip, azimuths, 143, bytes, 593, &written) == RADDLEHUE_UNKNOWN_AIR);
+    strip.body = 4294967296;
+    CHECK(raddlehue_strip_write(&strip, azimuths, 143, bytes, 593, &written) == RADDLEHUE_UNKNOWN_BODY);
+    answer = raddlehue_strip_write_of(strip, azimuths, 143, bytes, sizeof bytes);
+    CHECK(answer.refusal == RADDLEHUE_UNKNOWN_BODY && answer.written == 0 && written == 77 && all_are(bytes, sizeof bytes, 0x5a));
+    return 0;
+}
+
+/* Each number of a header out of its range by one, by itself. */
+static int refused_headers(void)
+{
+    raddlehue_strip_t strip = ten_minutes;
+    uint8_t bytes[RADDLEHUE_STRIP_BYTES(10)];
+    uint32_t azimuths[RADDLEHUE_STRIP_STEPS(10)];
+    const int64_t wrong[12][3] = {
+        {0, -1, 102}, {0, 2, 22}, {0, 3, 102}, {1, -1, 101}, {1, 2, 101}, {2, 1899, 23}, {2, 2101, 23}, {3, 0, 23}, {4, 0, 23},
+        {5, -1800000001, 24}, {6, 900000001, 24}, {7, 0, 25}};
+    int64_t number[8], at;
+    fill_azimuths(azimuths);
+    for (at = 0; at < 12; at++) {
+        memcpy(number, &ten_minutes, sizeof number);
+        number[wrong[at][0]] = wrong[at][1];
+        memcpy(&strip, number, sizeof strip);
+        CHECK(raddlehue_strip_write_of(strip, azimuths, 144, bytes, sizeof bytes).refusal == (uint32_t)wrong[at][2]);
+    }
+    return 0;
+}
+
+/* Reading what was written gives the same strip, and writing what was read the same bytes. */
+static int strip_read(void)
+{
+    uint8_t bytes[RADDLEHUE_STRIP_BYTES(10)], again[RADDLEHUE_STRIP_BYTES(10)];
+    raddlehue_strip_t strip = {-7, -7, -7, -7, -7, -7, -7, -7};
+    raddlehue_strip_read_answer_t answer;
+    CHECK(make_strip(ten_minutes, bytes, sizeof bytes));
+    CHECK(raddlehue_strip_read(bytes, sizeof bytes, &strip) == RADDLEHUE_ACCEPTED && memcmp(&strip, &ten_minutes, sizeof strip) == 0);
+    answer = raddlehue_strip_read_of(bytes, sizeof bytes);
+    CHECK(answer.refusal == RADDLEHUE_ACCEPTED && memcmp(&answer.strip, &ten_minutes, sizeof strip) == 0);
+    CHECK(make_strip(strip, again, sizeof again) && memcmp(bytes, again, sizeof bytes) == 0);
+    return 0;
+}
+
+/* The length against the bytes: fewer, more, and its own two among them. */
+static int strip_lengths(void)
+{
+    const uint8_t shortest[2] = {0, 0}, fifteen[17] = {0, 15, 9}, sixteen[18] = {0, 16, 1, 0, 0, 0x07, 0xd3, 10, 17, 0, 0, 0, 0, 0, 0, 0, 0, 10};
+    uint8_t bytes[RADDLEHUE_STRIP_BYTES(10) + 1];
+    memset(bytes, 0, sizeof bytes);
+    CHECK(make_strip(ten_minutes, bytes, sizeof bytes));
+    CHECK(raddlehue_strip_read_of(bytes, 593).refusal == RADDLEHUE_STRIP_LENGTH && raddlehue_strip_read_of(bytes, 595).refusal == RADDLEHUE_STRIP_LENGTH);
+    CHECK(raddlehue_strip_read_of(bytes, 592).refusal == RADDLEHUE_STRIP_LENGTH && raddlehue_strip_read_of(bytes, 590).refusal == RADDLEHUE_STRIP_LENGTH);
+    CHECK(raddlehue_strip_read_of(0, 0).refusal == RADDLEHUE_STRIP_LENGTH && raddlehue_strip_read_of(bytes, 1).refusal == RADDLEHUE_STRIP_LENGTH);
+    CHECK(raddlehue_strip_read_of(shortest, 2).refusal == RADDLEHUE_STRIP_LENGTH && raddlehue_strip_read_of(fifteen, 17).refusal == RADDLEHUE_STRIP_LENGTH);
+    CHECK(raddlehue_strip_read_of(sixteen, 18).refusal == RADDLEHUE_STRIP_LENGTH);
+    bytes[2] = 2;
+    CHECK(raddlehue_strip_read_of(bytes, 595).refusal == RADDLEHUE_STRIP_LENGTH && raddlehue_strip_read_of(bytes, 594).refusal == RADDLEHUE_STRIP_VERSION);
+    bytes[1] = 0x52;
+    CHECK(raddlehue_strip_read_of(bytes, 594).refusal == RADDLEHUE_STRIP_LENGTH);
+    return 0;
+}
+
+/* The later bytes first, so that each refusal goes before those that are found already; the length against the step is judged after the step alone. */
+static int refused_strip_read(void)
+{
+    uint8_t bytes[RADDLEHUE_STRIP_BYTES(10)];
+    raddlehue_strip_t strip = {-7, -7, -7, -7, -7, -7, -7, -7};
+    raddlehue_strip_read_answer_t answer;
+    CHECK(make_strip(ten_minutes, bytes, sizeof bytes));
+    bytes[RADDLEHUE_STRIP_HEADER] = 0xfe;
+    CHECK(raddlehue_strip_read(bytes, sizeof bytes, &strip) == RADDLEHUE_STRIP_AZIMUTH);
+    bytes[RADDLEHUE_STRIP_HEADER] = 0;
+    memcpy(bytes + 590, "\xd6\x93\xa4\0", 4);
+    CHECK(raddlehue_strip_read(bytes, sizeof bytes, &strip) == RADDLEHUE_STRIP_AZIMUTH);
+    bytes[17] = 5;
+    CHECK(raddlehue_strip_read(bytes, sizeof bytes, &strip) == RADDLEHUE_STRIP_LENGTH);
+    bytes[17] = 3;
+    CHECK(raddlehue_strip_read(bytes, sizeof bytes, &strip) == RADDLEHUE_STRIP_STEP);
+    memcpy(bytes + 13, "\x35\xa4\xe9\x01", 4);
+    CHECK(raddlehue_strip_read(bytes, sizeof bytes, &strip) == RADDLEHUE_STRIP_POINT);
+    bytes[17] = 5;
+    CHECK(raddlehue_strip_read(bytes, sizeof bytes, &strip) == RADDLEHUE_STRIP_POINT);
+    bytes[8] = 32;
+    CHECK(raddlehue_strip_read(bytes, sizeof bytes, &strip) == RADDLEHUE_STRIP_DATE);
+    bytes[4] = 2;
+    CHECK(raddlehue_strip_read(bytes, sizeof bytes, &strip) == RADDLEHUE_STRIP_AIR_OR_BODY);
+    bytes[4] = RADDLEHUE_SUN;
+    bytes[3] = RADDLEHUE_AIR_MEASURED;
+    CHECK(raddlehue_strip_read(bytes, sizeof bytes, &strip) == RADDLEHUE_STRIP_AIR_OR_BODY);
+    bytes[2] = 2;
+    CHECK(raddlehue_strip_read(bytes, sizeof bytes, &strip) == RADDLEHUE_STRIP_VERSION);
+    bytes[0] = 3;
+    CHECK(raddlehue_strip_read(bytes, sizeof bytes, &strip) == RADDLEHUE_STRIP_LENGTH);
+    CHECK(strip.air == -7 && strip.body == -7 && strip.year == -7 && strip.month == -7 && strip.day == -7);
+    CHECK(strip.longitude_e7 == -7 && strip.latitude_e7 == -7 && strip.step_minutes == -7);
+    answer = raddlehue_strip_read_of(bytes, sizeof bytes);
+    CHECK(answer.refusal == RADDLEHUE_STRIP_LENGTH && answer.strip.air == 0 && answer.strip.year == 0 && answer.strip.step_minutes == 0);
+    return 0;
+}
+
+static int strip_azimuth(void)
+{
+    const uint64_t no_steps[5] = {144, 4294967296, 4611686018427387903, 4611686018427387904, ~(uint64_t)0};
+    uint32_t expected[RADDLEHUE_STRIP_STEPS(10)], azimuth = 77, step;
+    uint8_t bytes[RADDLEHUE_STRIP_BYTES(10)];
+    uint8_t *const azimuths = bytes + RADDLEHUE_STRIP_HEADER;
+    raddlehue_strip_azimuth_answer_t answer;
+    fill_azimuths(expected);
+    CHECK(make_strip(ten_minutes, bytes, sizeof bytes));
+    for (step = 0; step < 5; step++)
+        CHECK(raddlehue_strip_azimuth(azimuths, 576, no_steps[step], &azimuth) == RADDLEHUE_NO_STEP);
+    CHECK(raddlehue_strip_azimuth(azimuths, 575, 143, &azimuth) == RADDLEHUE_NO_STEP && raddlehue_strip_azimuth(0, 0, 0, &azimuth) == RADDLEHUE_NO_STEP);
+    CHECK(azimuth == 77);
+    for (step = 0; step < RADDLEHUE_STRIP_STEPS(10); step++)
+        CHECK(raddlehue_strip_azimuth(azimuths, 576, step, &azimuth) == RADDLEHUE_ACCEPTED && azimuth == expected[step]);
+    memcpy(azimuths + 4, "\xd6\x93\xa4\0", 4);
+    CHECK(raddlehue_strip_azimuth(azimuths, 576, 1, &azimuth) == RADDLEHUE_STRIP_AZIMUTH && azimuth == expected[143]);
+    answer = raddlehue_strip_azimuth_of(azimuths, 12, 2);
+    CHECK(answer.refusal == RADDLEHUE_ACCEPTED && answer.azimuth_e7 == RADDLEHUE_NO_AZIMUTH_E7);
+    answer = raddlehue_strip_azimuth_of(azimuths, 12, 1);
+    CHECK(answer.refusal == RADDLEHUE_STRIP_AZIMUTH && answer.azimuth_e7 == 0);
+    return 0;
+}
+
+/* The strip of five minutes of the day after, with all its azimuths in the north. */
+static int make_next_strip(uint8_t bytes[RADDLEHUE_STRIP_BYTES(5)])
+{
+    const uint32_t north[RADDLEHUE_STRIP_STEPS(5)] = {0};
+    raddlehue_strip_t strip = ten_minutes;
+    strip.day++;
+    strip.step_minutes = 5;
+    return raddlehue_strip_write_of(strip, north, RADDLEHUE_STRIP_STEPS(5), bytes, RADDLEHUE_STRIP_BYTES(5)).refusal == RADDLEHUE_ACCEPTED;
+}
+
+static int found(raddlehue_strip_find_answer_t answer, uint64_t strip, uint64_t length)
+{
+    return answer.refusal == RADDLEHUE_ACCEPTED && answer.strip == strip && answer.offset == RADDLEHUE_STRIP_HEADER && answer.length == length;
+}
+
+static int strip_find(void)
+{
+    uint8_t first[RADDLEHUE_STRIP_BYTES(10)], second[RADDLEHUE_STRIP_BYTES(5)];
+    raddlehue_strip_part_t part = {77, 88, 99};
+    CHECK(make_strip(ten_minutes, first, sizeof first) && make_next_strip(second));
+    CHECK(raddlehue_strip_find(first, sizeof first, second, sizeof second, 2003, 10, 18, &part) == RADDLEHUE_ACCEPTED);
+    CHECK(part.strip == 2 && part.offset == RADDLEHUE_STRIP_HEADER && part.length == 1152);
+    CHECK(found(raddlehue_strip_find_of(first, sizeof first, second, sizeof second, 2003, 10, 17), 1, 576));
+    CHECK(found(raddlehue_strip_find_of(second, sizeof second, first, sizeof first, 2003, 10, 17), 2, 576));
+    second[8] = 17;
+    CHECK(found(raddlehue_strip_find_of(first, sizeof first, second, sizeof second, 2003, 10, 17), 1, 576));
+    CHECK(found(raddlehue_strip_find_of(second, sizeof second, first, sizeof first, 2003, 10, 17), 1, 1152));
+    return 0;
+}
+
+/* A date in neither comes last, after what is wrong with the second strip, and that after what is wrong with the first. */
+static int refused_strip_find(void)
+{
+    const int64_t no_dates[6][3] = {{2004, 10, 17}, {2003, 11, 17}, {2003, 10, 16}, {2003 + 65536, 10, 17}, {2003, 10 + 256, 17}, {2003, 10, 17 - 256}};
+    uint8_t first[RADDLEHUE_STRIP_BYTES(10)], second[RADDLEHUE_STRIP_BYTES(5)];
+    raddlehue_strip_part_t part = {77, 88, 99};
+    raddlehue_strip_find_answer_t answer;
+    int at;
+    CHECK(make_strip(ten_minutes, first, sizeof first) && make_next_strip(second));
+    for (at = 0; at < 6; at++) {
+        const int64_t *date = no_dates[at];
+        CHECK(raddlehue_strip_find(first, sizeof first, second, sizeof second, date[0], date[1], date[2], &part) == RADDLEHUE_STRIP_NOT_FOUND);
+    }
+    second[RADDLEHUE_STRIP_BYTES(5) - 4] = 0xfe;
+    CHECK(raddlehue_strip_find(first, sizeof first, second, sizeof second, 2003, 10, 17, &part) == RADDLEHUE_STRIP_AZIMUTH);
+    CHECK(raddlehue_strip_find(first, sizeof first, second, sizeof second, 2003, 10, 19, &part) == RADDLEHUE_STRIP_AZIMUTH);
+    CHECK(raddlehue_strip_find(first, sizeof first, 0, 0, 2003, 10, 17, &part) == RADDLEHUE_STRIP_LENGTH);
+    first[2] = 0;
+    CHECK(raddlehue_strip_find(first, sizeof first, second, sizeof second, 2003, 10, 18, &part) == RADDLEHUE_STRIP_VERSION);
+    CHECK(raddlehue_strip_find(0, 0, second, sizeof second, 2003, 10, 18, &part) == RADDLEHUE_STRIP_LENGTH);
+    CHECK(part.strip == 77 && part.offset == 88 && part.length == 99);
+    answer = raddlehue_strip_find_of(first, sizeof first, second, sizeof second, 2003, 10, 18);
+    CHECK(answer.refusal == RADDLEHUE_STRIP_VERSION && answer.strip == 0 && answer.offset == 0 && answer.length == 0);
+    return 0;
+}
+
+/* The largest strip, from a day's azimuths to a minute's: what the phone makes is what the watch finds. */
+static int largest_strip(void)
+{
+    const raddlehue_strip_t strip = {RADDLEHUE_AIR_NONE, RADDLEHUE_SUN, 2009, 6, 21, 0, 514769000, 1};
+    uint32_t azimuths[RADDLEHUE_STRIP_STEPS(1)];
+    uint8_t bytes[RADDLEHUE_STRIP_BYTES(1)], next[RADDLEHUE_STRIP_BYTES(5)];
+    uint64_t minute;
+    raddlehue_strip_find_answer_t part;
+    CHECK(raddlehue_day_azimuths_of(longest_day, RADDLEHUE_SUN, greenwich, 1, azimuths, RADDLEHUE_STRIP_STEPS(1)).refusal == RADDLEHUE_ACCEPTED);
+    CHECK(raddlehue_strip_write_of(strip, azimuths, RADDLEHUE_STRIP_STEPS(1), bytes, sizeof bytes).written == 5778);
+    CHECK(make_next_strip(next));
+    part = raddlehue_strip_find_of(next, sizeof next, bytes, sizeof bytes, 2009, 6, 21);
+    CHECK(found(part, 2, 5760));
+    for (minute = 0; minute < RADDLEHUE_DAY_MINUTES; minute++)
+        CHECK(raddlehue_strip_azimuth_of(bytes + part.offset, part.length, minute).azimuth_e7 == azimuths[minute]);
     return 0;
 }
 
@@ -580,6 +960,8 @@ static int numbers(void)
 int main(void)
 {
     return constants() || sizes() || texts() || place() || refusals() || shown_place() || no_azimuth() || no_azimuth_shown() || batch() ||
-           no_azimuth_in_a_batch() || refused_batch() || empty_batch() || day() || days_without() || refused_day() || eclipse() ||
+           no_azimuth_in_a_batch() || refused_batch() || empty_batch() || day() || days_without() || refused_day() || day_azimuths() ||
+           day_without_an_azimuth() || refused_day_azimuths() || strip_write() || refused_strip_write() || refused_headers() || strip_read() ||
+           strip_lengths() || refused_strip_read() || strip_azimuth() || strip_find() || refused_strip_find() || largest_strip() || eclipse() ||
            refused_eclipse() || covered_share() || middle() || refraction() || days_and_instants() || moon_and_sun() || earth() || numbers();
 }

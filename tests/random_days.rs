@@ -34,7 +34,7 @@ pub fn body_of(body: u32) -> reference::Body {
 }
 
 // A date that exists: the first and the last of all, the end of February, and any other.
-fn date(random: &mut Random) -> [i64; 3] {
+pub fn date(random: &mut Random) -> [i64; 3] {
     match random.below(12) {
         0 => [1900, 1, 1],
         1 => [1900, 1, 2],
@@ -57,7 +57,7 @@ fn latitude(random: &mut Random) -> i64 {
 }
 
 // A request that nothing refuses, and its body.
-fn drawn(random: &mut Random) -> ([i64; 8], u32) {
+pub fn drawn(random: &mut Random) -> ([i64; 8], u32) {
     let [year, month, day] = date(random);
     let (ut1, delta_t) = (random.field(-9, 9), random.field(-80_000, 80_000));
     let longitude = random.field(-HALF_TURN_E7, HALF_TURN_E7);

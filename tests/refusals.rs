@@ -115,12 +115,14 @@ fn rust_crate() -> Result<Vec<Refusal>, String> {
     Ok(found)
 }
 
-// The clauses of `number`, the batch's late case, and our own codes.
+// The clauses of `number` and of `strip-number`, the batch's late case, and our own codes.
 fn definitions() -> Result<Vec<Refusal>, String> {
     let mut found = Vec::new();
     for line in read(NUMBERS)?.lines() {
-        if let Some((name, number)) = line.strip_prefix("number Of.").and_then(|clause| clause.split_once('=')) {
-            found.push(Refusal::new(number, upper(name.trim()), None)?);
+        for (clause, family) in [("number Of.", ""), ("strip-number Strips.", "STRIP_")] {
+            if let Some((name, number)) = line.strip_prefix(clause).and_then(|clause| clause.split_once('=')) {
+                found.push(Refusal::new(number, format!("{family}{}", upper(name.trim())), None)?);
+            }
         }
     }
     let batch = read(BATCH)?;
@@ -189,12 +191,22 @@ fn numbers(words: &str) -> Vec<u32> {
     found
 }
 
+// A strip's length, which is judged once more, against the step, behind the step's own check.
+const JUDGED_AGAIN: u32 = 20;
+const BEHIND: u32 = 25;
+
 // What the header says of each function, "Refused: ..", goes down the list.
 fn order(list: &[Refusal]) -> Result<usize, String> {
     let text = read(HEADER)?.replace("\n *", " ");
     let sentences: Vec<&str> = text.split("Refused: ").skip(1).filter_map(|rest| rest.split('.').next()).collect();
     for sentence in &sentences {
-        let rows = numbers(sentence).into_iter().map(|number| {
+        let mut numbers = numbers(sentence);
+        if let Some(step) = numbers.iter().position(|&number| number == BEHIND) {
+            if numbers.get(step + 1) == Some(&JUDGED_AGAIN) {
+                numbers.remove(step + 1);
+            }
+        }
+        let rows = numbers.into_iter().map(|number| {
             let row = list.iter().position(|row| row.number == number);
             row.ok_or_else(|| format!("{HEADER} says \"Refused: {sentence}\", and {LIST} has no {number}"))
         });

@@ -26,6 +26,11 @@ static raddlehue_place_t place;
 static raddlehue_shown_place_t shown;
 static raddlehue_batch_t told;
 static raddlehue_rise_set_t rise_set;
+static raddlehue_strip_t strip = {RADDLEHUE_AIR_NONE, RADDLEHUE_SUN, 2003, 10, 17, -1051786000, 397424760, 1};
+static uint32_t day_azimuths[RADDLEHUE_STRIP_STEPS(1)], entry_e7;
+static uint8_t bytes[RADDLEHUE_STRIP_BYTES(1)];
+static raddlehue_strip_part_t part;
+static uint64_t count;
 static raddlehue_eclipse_t disks;
 static raddlehue_instant_t moment;
 static raddlehue_moon_sums_t moon;
@@ -42,6 +47,11 @@ static void shown_place(void) {
 }
 static void batch(void) { kept = raddlehue_batch(&start, body, &point, offsets, COUNT, azimuths, COUNT, elevations, COUNT, &told); }
 static void day(void) { kept = raddlehue_day(&date, body, &point, curve, &rise_set); }
+static void azimuths_of_a_day(void) { kept = raddlehue_day_azimuths(&date, body, &point, 1, day_azimuths, RADDLEHUE_STRIP_STEPS(1), &count); }
+static void strip_write(void) { kept = raddlehue_strip_write(&strip, day_azimuths, RADDLEHUE_STRIP_STEPS(1), bytes, sizeof bytes, &count); }
+static void strip_read(void) { kept = raddlehue_strip_read(bytes, sizeof bytes, &strip); }
+static void strip_find(void) { kept = raddlehue_strip_find(bytes, sizeof bytes, bytes, sizeof bytes, 2003, 10, 17, &part); }
+static void strip_azimuth(void) { kept = raddlehue_strip_azimuth(bytes + RADDLEHUE_STRIP_HEADER, sizeof bytes - RADDLEHUE_STRIP_HEADER, 1439, &entry_e7); }
 static void eclipse(void) { kept = raddlehue_eclipse(&eclipse_start, &eclipse_point, &disks); }
 static void covered_share(void) { kept = raddlehue_covered_share(37487637, 26235977, 28334136, &number); }
 static void middle(void) { kept = raddlehue_middle(35990000000, 10000000, &number); }
@@ -84,7 +94,13 @@ static void row_with(const char *name, void (*call)(void), size_t lent) {
     printf("| %s | %zu |\n", name, most + lent);
 }
 
-static void row(const char *name, void (*call)(void)) { row_with(name, call, 0); }
+/* A call that is refused would use next to nothing, and is no measure. */
+static int refused;
+
+static void row(const char *name, void (*call)(void)) {
+    row_with(name, call, 0);
+    refused += kept != RADDLEHUE_ACCEPTED;
+}
 
 int main(void) {
     for (uint32_t i = 0; i < COUNT; i++) {
@@ -96,6 +112,11 @@ int main(void) {
     row("raddlehue_batch", batch);
     row("raddlehue_day", day);
     row_with("raddlehue_day and the curve that it is lent", day, sizeof curve);
+    row("raddlehue_day_azimuths", azimuths_of_a_day);
+    row("raddlehue_strip_write", strip_write);
+    row("raddlehue_strip_read", strip_read);
+    row("raddlehue_strip_find", strip_find);
+    row("raddlehue_strip_azimuth", strip_azimuth);
     row("raddlehue_eclipse", eclipse);
     row("raddlehue_covered_share", covered_share);
     row("raddlehue_middle", middle);
@@ -106,8 +127,9 @@ int main(void) {
     row("raddlehue_sun_sums", sun_sums);
     row("raddlehue_nutation", nutation);
     row("raddlehue_mean_sidereal", mean_sidereal);
-    row("raddlehue_sine", sine);
-    row("raddlehue_arctangent", arctangent);
-    row("raddlehue_root", root);
-    return 0;
+    /* these three refuse nothing */
+    row_with("raddlehue_sine", sine, 0);
+    row_with("raddlehue_arctangent", arctangent, 0);
+    row_with("raddlehue_root", root, 0);
+    return refused != 0;
 }

@@ -25,6 +25,7 @@ fn at_fault(number: u32, words: &Words) -> Option<String> {
         9 => "--height",
         10 => "--pressure",
         11 => "--temperature",
+        25 => "--step",
         14 | 15 => return Some(words.all_positional().map(quoted).collect::<Vec<_>>().join(" and ")),
         _ => return None,
     };

@@ -11,7 +11,7 @@ use crate::words::{Command, Words};
 
 pub const COMMAND: Command = Command {
     name: "day",
-    summary: "a table of the Sun and the Moon through a day, rise and set",
+    summary: "the Sun and the Moon through a day, rise and set",
     positional: &["DATE"],
     flags: &[observer::FLAGS, observer::ZONE, format::FLAGS, &[("--every", Some("whole minutes"))]],
     help: concat!(

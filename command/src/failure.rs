@@ -10,6 +10,8 @@ pub enum Failure {
     Refused(u32, String),
     /// A line of the input is no question, or one that is refused: status 1.
     Line(String),
+    /// A file cannot be read or written: status 1.
+    File(String),
     /// The answer could not be read or written: status 1.
     Broken(&'static str, io::Error),
 }
@@ -18,16 +20,26 @@ impl Failure {
     pub fn status(&self) -> u8 {
         match self {
             Failure::Usage(_) => 2,
-            Failure::Refused(..) | Failure::Line(_) | Failure::Broken(..) => 1,
+            Failure::Refused(..) | Failure::Line(_) | Failure::File(_) | Failure::Broken(..) => 1,
         }
     }
 
     /// The sentence for people; none where the reader of a pipe left on his own.
     pub fn sentence(&self) -> Option<String> {
         match self {
-            Failure::Usage(sentence) | Failure::Refused(_, sentence) | Failure::Line(sentence) => Some(sentence.clone()),
+            Failure::Usage(sentence) | Failure::Refused(_, sentence) | Failure::Line(sentence) | Failure::File(sentence) => {
+                Some(sentence.clone())
+            }
             Failure::Broken(_, error) if error.kind() == io::ErrorKind::BrokenPipe => None,
             Failure::Broken(what, error) => Some(format!("{what}: {error}")),
+        }
+    }
+
+    /// The same with the word in front that a refusal is about.
+    pub fn about(self, word: &str) -> Failure {
+        match self {
+            Failure::Refused(number, sentence) => Failure::Refused(number, format!("{}: {sentence}", quoted(word))),
+            other => other,
         }
     }
 }

@@ -145,13 +145,12 @@ pub fn json_member(name: &str, value: Option<String>, is_word: bool) -> String {
 
 /// The members that say where the observer stands.
 pub fn json_spot(spot: Spot) -> String {
-    let degrees = |units_e7| decimal::written(units_e7, POINT_DECIMALS);
-    format!(
-        "\"latitude_degrees\": {}, \"longitude_degrees\": {}, \"height_metres\": {}",
-        degrees(spot.latitude_e7),
-        degrees(spot.longitude_e7),
-        spot.height_metres
-    )
+    format!("{}, \"height_metres\": {}", json_point(spot.latitude_e7, spot.longitude_e7), spot.height_metres)
+}
+
+pub fn json_point(latitude_e7: i64, longitude_e7: i64) -> String {
+    let [latitude, longitude] = [latitude_e7, longitude_e7].map(|units_e7| decimal::written(units_e7, POINT_DECIMALS));
+    format!("\"latitude_degrees\": {latitude}, \"longitude_degrees\": {longitude}")
 }
 
 /// The members that say both time scales and where they come from.

@@ -20,6 +20,7 @@ mod picture;
 mod place;
 mod rise_set;
 mod sky;
+mod strip;
 mod svg;
 mod time;
 mod words;
@@ -31,8 +32,18 @@ use std::io::{self, Write};
 use std::process::ExitCode;
 use words::{Command, Words};
 
-const COMMANDS: [&Command; 7] =
-    [&day::COMMAND, &place::COMMAND, &batch::COMMAND, &middle::COMMAND, &eclipse::COMMAND, &picture::COMMAND, &year::COMMAND];
+const COMMANDS: [&Command; 10] = [
+    &day::COMMAND,
+    &place::COMMAND,
+    &batch::COMMAND,
+    &middle::COMMAND,
+    &eclipse::COMMAND,
+    &picture::COMMAND,
+    &year::COMMAND,
+    &strip::make::COMMAND,
+    &strip::show::COMMAND,
+    &strip::find::COMMAND,
+];
 
 const ABOUT: &str = "raddlehue: where the Sun and the Moon stand
 ";
@@ -61,7 +72,7 @@ an answer is refused or cannot be written; 2 where the words are not right.
 fn help() -> String {
     let mut text = format!("{ABOUT}\n");
     for command in COMMANDS {
-        text += &format!("  raddlehue {:<8} {}\n", command.name, command.summary);
+        text += &format!("  raddlehue {:<11} {}\n", command.name, command.summary);
     }
     text + NOTES
 }
@@ -73,6 +84,30 @@ fn text_of(word: OsString) -> Result<String, Failure> {
 
 fn is_help(word: &str) -> bool {
     matches!(word, "--help" | "-h")
+}
+
+// The words after a command's name, which has one word or two.
+fn rest_after<'a>(name: &str, given: &'a [String]) -> Option<&'a [String]> {
+    let (first, rest) = given.split_at_checked(name.split(' ').count())?;
+    name.split(' ').eq(first).then_some(rest)
+}
+
+// A first word that names no command by itself: the pages of those whose names begin with it, or what is wrong.
+fn family(first: &str, rest: &[String]) -> Result<String, Failure> {
+    let begins = |command: &&Command| command.name.split(' ').next() == Some(first);
+    let (names, pages): (Vec<&str>, Vec<&str>) =
+        COMMANDS.into_iter().filter(begins).map(|command| (command.name, command.help)).unzip();
+    if names.is_empty() {
+        return Err(Failure::Usage(format!("the command {} is unknown; see raddlehue --help", quoted(first))));
+    }
+    if rest.iter().any(|word| is_help(word)) {
+        return Ok(pages.join("\n"));
+    }
+    let wrong = match rest.first() {
+        Some(word) => format!("the word {} after {first} is unknown", quoted(word)),
+        None => format!("a word is missing after {first}"),
+    };
+    Err(Failure::Usage(format!("{wrong}: there are {}; see raddlehue {first} --help", names.join(", "))))
 }
 
 fn answer(given: impl Iterator<Item = OsString>) -> Result<String, Failure> {
@@ -89,8 +124,9 @@ fn answer(given: impl Iterator<Item = OsString>) -> Result<String, Failure> {
         }
         return Ok(format!("raddlehue {} (library {})\n", env!("CARGO_PKG_VERSION"), sky::VERSION));
     }
-    let Some(command) = COMMANDS.into_iter().find(|command| command.name == first) else {
-        return Err(Failure::Usage(format!("the command {} is unknown; see raddlehue --help", quoted(first))));
+    let Some((command, rest)) = COMMANDS.into_iter().find_map(|command| Some((command, rest_after(command.name, &given)?)))
+    else {
+        return family(first, rest);
     };
     if rest.iter().any(|word| is_help(word)) {
         return Ok(command.help.to_string());

@@ -74,8 +74,7 @@ impl Observer {
     /// For a heading: "latitude 45.5 N, longitude 5.2 E, height 0 m".
     pub fn words(self) -> String {
         let Spot { latitude_e7, longitude_e7, height_metres } = self.spot;
-        let (latitude, longitude) = (sided(latitude_e7, &LATITUDE), sided(longitude_e7, &LONGITUDE));
-        format!("latitude {latitude}, longitude {longitude}, height {height_metres} m")
+        format!("{}, height {height_metres} m", point_words(latitude_e7, longitude_e7))
     }
 
     /// For a picture: "45.5° N, 5.2° E".
@@ -155,6 +154,11 @@ fn degrees(word: &str, side: &Side) -> Result<i64, Failure> {
         Ok(size) => Ok(if letter == *negative { -size } else { size }),
         Err(misread) => Err(misread_words(word, name, POINT_DECIMALS, &what, misread)),
     }
+}
+
+/// "latitude 45.5 N, longitude 5.2 E".
+pub fn point_words(latitude_e7: i64, longitude_e7: i64) -> String {
+    format!("latitude {}, longitude {}", sided(latitude_e7, &LATITUDE), sided(longitude_e7, &LONGITUDE))
 }
 
 fn sided(units_e7: i64, side: &Side) -> String {

@@ -1,10 +1,12 @@
 //! Every call of the proved library, and nothing else: what is asked of it, and its refusals in its own words.
 
+use crate::calendar;
 use crate::failure::Failure;
 use crate::time::{Clock, Moment};
-use raddlehue::{Air, Date, Point, Refusal, Start};
+use raddlehue::{Air, Date, FoundStrip, Point, Refusal, Start, StripHeader};
 
-pub use raddlehue::{Body, Eclipse, Place, RiseSet, Shown, DAY_MINUTES, LOWEST_REFRACTED_E8, RISE_SET_E8};
+pub use raddlehue::{Body, Eclipse, Place, RiseSet, Shown, Strip, StripAir, StripStep, Which};
+pub use raddlehue::{DAY_MINUTES, LOWEST_REFRACTED_E8, RISE_SET_E8, STRIP_HEADER};
 
 /// Decimals of the library's angles, of a point's degrees, of a second, and of per cent of the Sun's disk in millionths.
 pub const ANGLE_DECIMALS: u32 = 8;
@@ -122,13 +124,50 @@ pub fn eclipse_within_years(view: View) -> Result<Option<Eclipse>, Failure> {
 
 /// The middle of two azimuths, all in 1e-8 degree.
 pub fn middle(a_e8: i64, b_e8: i64) -> Result<i64, Failure> {
-    raddlehue::middle(a_e8, b_e8).map_err(|refusal| Failure::Refused(refusal.number(), numbered(refusal)))
+    raddlehue::middle(a_e8, b_e8).map_err(refused_plainly)
+}
+
+// ---- strips
+
+/// The strip of the UTC date on which the view's moment lies.
+pub fn strip_of_day(view: View, body: Body, step_minutes: i64, air: StripAir) -> Result<Vec<u8>, Failure> {
+    let (date, point) = (view.date(), view.point());
+    let mut azimuths_e7 = [0; DAY_MINUTES];
+    let count = raddlehue::day_azimuths(date, body, point, step_minutes, &mut azimuths_e7)
+        .map_err(|refusal| refused(refusal, view.moment))?;
+    let header = StripHeader::of(date, body, point, step_minutes, air.into());
+    raddlehue::strip_to_vec(header, &azimuths_e7[..count]).map_err(refused_plainly)
+}
+
+pub fn strip(bytes: &[u8]) -> Result<Strip<'_>, Failure> {
+    Strip::try_from(bytes).map_err(refused_plainly)
+}
+
+/// Why a lookup is refused: one of the two is no strip, or it is about the date.
+pub struct LookupRefused {
+    pub at: Option<Which>,
+    pub failure: Failure,
+}
+
+pub fn find_strip<'a>(first: &'a [u8], second: &'a [u8], date: calendar::Date) -> Result<FoundStrip<'a>, LookupRefused> {
+    raddlehue::find_strip(first, second, date.year, date.month, date.day).map_err(|refusal| LookupRefused {
+        at: match refusal {
+            Refusal::StripNotFound => None,
+            _ if Strip::try_from(first).is_err() => Some(Which::First),
+            _ => Some(Which::Second),
+        },
+        failure: refused_plainly(refusal),
+    })
 }
 
 // ---- refusals
 
 fn numbered(refusal: Refusal) -> String {
     format!("refused {}: {}", refusal.number(), refusal.sentence())
+}
+
+fn refused_plainly(refusal: Refusal) -> Failure {
+    Failure::Refused(refusal.number(), numbered(refusal))
 }
 
 // A moment is said in UTC, since a zone or an offset may have moved it out of the years that are answered.
@@ -142,7 +181,7 @@ fn refused(refusal: Refusal, moment: Moment) -> Failure {
 pub fn refused_clock(clock: Clock) -> Failure {
     let nowhere = Point { longitude_e7: 0, latitude_e7: 0, height_metres: 0 };
     match raddlehue::place(start_of(clock), Body::Sun, nowhere, Air::None) {
-        Err(refusal) => Failure::Refused(refusal.number(), numbered(refusal)),
+        Err(refusal) => refused_plainly(refusal),
         Ok(_) => Failure::Usage("there is no such time".to_string()),
     }
 }

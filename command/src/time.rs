@@ -117,6 +117,11 @@ impl Moment {
         Moment::at(Clock { date, hour: 0, minute: 0, second: 0, tenth: 0 }, zone)
     }
 
+    /// The first moment of a date of UTC that exists.
+    pub fn midnight_of(date: Date) -> Moment {
+        Moment { tenths: TENTHS_OF_DAY * date.day_number(), zone: UTC }
+    }
+
     pub fn later(self, tenths: u32) -> Moment {
         Moment { tenths: self.tenths + i64::from(tenths), ..self }
     }

@@ -206,12 +206,16 @@ fn help_and_version_are_answers() {
     let help = answer(&["--help"], "");
     let fits = |page: &str| page.lines().all(|line| line.len() <= 80);
     assert!(fits(&help), "a page fits a terminal");
-    for command in ["day", "place", "batch", "middle", "eclipse", "picture", "year"] {
+    let strips = ["strip make", "strip show", "strip find"];
+    for command in ["day", "place", "batch", "middle", "eclipse", "picture", "year"].into_iter().chain(strips) {
+        let name: Vec<&str> = command.split(' ').collect();
         assert!(help.contains(&format!("raddlehue {command} ")), "{command}");
-        let page = answer(&[command, "--help"], "");
+        let page = answer(&[&name[..], &["--help"]].concat(), "");
         assert!(page.starts_with(&format!("raddlehue {command} ")) && fits(&page), "{command}");
-        assert_eq!(answer(&[command, "2026-10-10", "-h"], ""), page);
+        assert_eq!(answer(&[&name[..], &["2026-10-10", "-h"]].concat(), ""), page);
     }
+    let pages = strips.map(|command| answer(&["strip", &command[6..], "-h"], ""));
+    assert_eq!(answer(&["strip", "--help"], ""), pages.join("\n"));
     assert!(help.contains("outside the proofs") && help.contains("forecast"));
     assert_eq!(answer(&["--version"], "").split(' ').nth(1), Some(env!("CARGO_PKG_VERSION")));
 }

@@ -42,6 +42,7 @@ fn dates() {
         refused(&here(&["day", word]), "", 2, word);
         refused(&here(&["picture", word]), "", 2, word);
         refused(&here(&["eclipse", word]), "", 2, word);
+        refused(&here(&["strip", "make", "sun", word, "--out", "never"]), "", 2, word);
     }
     for word in [
         "2026-08-32", "2026-02-29", "2026-13-01", "2026-00-01", "2026-08-00", "1899-12-31", "2101-01-01", "0000-00-00",
@@ -50,6 +51,7 @@ fn dates() {
         refused(&here(&["day", word]), "", 1, word);
         refused(&here(&["picture", word]), "", 1, word);
         refused(&here(&["eclipse", word]), "", 1, word);
+        refused(&here(&["strip", "make", "sun", word, "--out", "never"]), "", 1, word);
     }
     // A zone's day has to lie within the years of UTC as a whole.
     refused(&here(&["eclipse", "1900-01-01", "--zone", "+00:01"]), "", 1, "1900-01-01");
@@ -127,6 +129,7 @@ fn degrees() {
     for word in words {
         refused(&["day", "2026-08-09", "--lat", word, "--lon", "5.2"], "", 2, word);
         refused(&["eclipse", "2026-08-12", "--lat", word, "--lon", "5.2"], "", 2, word);
+        refused(&["strip", "make", "moon", "2026-08-12", "--lat", word, "--lon", "5.2", "--out", "never"], "", 2, word);
         refused(&["place", "sun", "2026-08-09T12:00Z", "--lat", "5.2", "--lon", word], "", 2, word);
     }
     for word in ["5E", "5.2W"] {
@@ -227,6 +230,12 @@ fn flags() {
     refused(&here(&["eclipse", "2026-08-12", "--picture", "e.svg"]), "", 2, "e.svg");
     refused(&here(&["day", "2026-08-12", "--picture"]), "", 2, "--picture");
     refused(&["eclipse", "2026-08-12", "--lon", "5"], "", 2, "--lat");
+    refused(&["strip", "make", "sun", "2026-08-12", "--lon", "5", "--out", "never"], "", 2, "--lat");
+    refused(&here(&["strip", "make", "sun", "2026-08-12", "--out"]), "", 2, "--lat");
+    refused(&here(&["strip", "make", "sun", "2026-08-12", "--every", "5"]), "", 2, "--every");
+    refused(&["strip", "show", "never", "--picture"], "", 2, "--picture");
+    refused(&["strip", "show", "never", "ever"], "", 2, "ever");
+    refused(&["strip", "find", "never", "never", "2026-08-12", "--lat", "5"], "", 2, "--lat");
 }
 
 #[test]
@@ -235,6 +244,10 @@ fn commands() {
         refused(&[word], "", 2, word);
     }
     refused(&["--version", "x"], "", 2, "x");
+    for word in ["write", "Make", "", "make show", "2026-08-09", "--lat"] {
+        refused(&["strip", word], "", 2, word);
+    }
+    refused(&["strip make", "sun"], "", 2, "strip make");
     for word in ["Sun", "mars", "", "sunmoon", "sun moon"] {
         refused(&here(&["place", word, "2026-08-09T12:00Z"]), "", 2, word);
         refused(&here(&["batch", word]), "", 2, word);
@@ -250,6 +263,10 @@ fn commands() {
         &["picture"],
         &["year"],
         &["eclipse"],
+        &["strip"],
+        &["strip", "make"],
+        &["strip", "show"],
+        &["strip", "find", "a", "b"],
     ] {
         let output = run(words, b"");
         assert_eq!((output.status.code(), output.stdout.len()), (Some(2), 0), "{words:?}");

@@ -3,17 +3,19 @@
 // Each request is made twice: by the function as it is, with poisoned memory, which gives the line; and by raddlehue.mjs, which has to give the same words, or nothing
 // where the call is refused. A difference ends the run.
 import { readFileSync } from 'node:fs';
-import { NO_DIRECTION_E8, load } from './raddlehue.mjs';
+import { NO_AZIMUTH_E7, NO_DIRECTION_E8, load } from './raddlehue.mjs';
 
 const sky = await load(readFileSync(process.argv[2]));
 const raw = sky.raw;
 const POISON = 0x5a5a5a5a5a5a5a5an;
 const [SIDE, ROOM, CELLS, MINUTES] = [2, 8, 10, 1440];
+const [STRIP_HEADER, STRIP_ROOM] = [18, 5780];
 
 // beyond what raddlehue.mjs uses of the memory
 raw.memory.grow(1);
 const base = raw.memory.buffer.byteLength - 65536;
 const [start, point, lent, offsets, buffers, curve] = [base, base + 96, base + 256, base + 1024, base + 2048, base + 4096];
+const [azimuths, written, strips] = [base + 16384, base + 24576, [base + 32768, base + 40960]];
 const view = () => new DataView(raw.memory.buffer);
 
 const big = (word) => BigInt.asIntN(64, BigInt(`0x${word}`));
@@ -107,47 +109,167 @@ function batch(given, line) {
   // raddlehue.mjs lends buffers that are long enough
   const ours = sky.batch(...objects(given), list);
   if (refusal === 0 || refusal === 13) {
-    const same = refusal === 0
+    const agrees = refusal === 0
       ? list.every((_, i) => ours.azimuths_e8[i] === cells[i] && ours.elevations_e8[i] === cells[CELLS + i]) && ours.azimuths_e8.length === count
       : hex(BigInt(ours.index)) === said[1];
-    if (ours.refusal !== refusal || !same) fail(line, 'raddlehue.mjs has another batch');
+    if (ours.refusal !== refusal || !agrees) fail(line, 'raddlehue.mjs has another batch');
   } else if (refusal !== 12 && ours.refusal !== refusal) fail(line, `raddlehue.mjs has refusal ${ours.refusal}`);
   return [...said, ...cells.map(hex)];
 }
 
-// The curve's cells: how many are still poisoned, the digest of tests/vectors/days.txt, and what was written beside them.
-function curveWords() {
+const CELL = { 8: 'getBigUint64', 4: 'getUint32', 1: 'getUint8' };
+
+// The cells of long memory, of so many bytes each: how many are still poisoned, the digest of tests/vectors/days.txt, and what was written beside them.
+function longWords(at, width, cells) {
   const said = [];
   let [poisoned, digest] = [0n, 0xcbf29ce484222325n];
-  for (let i = 0; i < SIDE + MINUTES + SIDE; i++) {
-    const word = view().getBigUint64(curve + 8 * i, true);
-    if (i >= SIDE && i < SIDE + MINUTES) {
-      poisoned += word === POISON ? 1n : 0n;
+  for (let i = 0; i < SIDE + cells + SIDE; i++) {
+    const word = BigInt(view()[CELL[width]](at + width * i, true));
+    const isPoisoned = word === BigInt.asUintN(8 * width, POISON);
+    if (i >= SIDE && i < SIDE + cells) {
+      poisoned += isPoisoned ? 1n : 0n;
       digest = BigInt.asUintN(64, (digest ^ word) * 0x100000001b3n);
-    } else if (word !== POISON) said.push('BESIDE', i.toString(16), hex(word));
+    } else if (!isPoisoned) said.push('BESIDE', i.toString(16), hex(word));
   }
   return [...said, hex(poisoned), hex(digest)];
 }
+
+const memory = (at, length) => new Uint8Array(raw.memory.buffer, at, length);
+const poison = (at, width, cells) => memory(at, width * (SIDE + cells + SIDE)).fill(0x5a);
+const same = (a, b) => a.length === b.length && a.every((entry, i) => entry === b[i]);
 
 function day(given, line) {
   const [date, body, place] = [given.slice(0, 5).map(big), code(given[5]), given.slice(6).map(big)];
   put(start, date);
   put(point, place);
-  put(curve, Array(SIDE + MINUTES + SIDE).fill(POISON));
+  poison(curve, 8, MINUTES);
   const refusal = raw.raddlehue_day(start, body, point, curve + 8 * SIDE, lend());
-  const said = [...words(refusal, 2), ...curveWords()];
+  const said = [...words(refusal, 2), ...longWords(curve, 8, MINUTES)];
   // raddlehue.mjs names a minute only where there is one; as two words of 32 bits each, the flag below
   const ours = sky.day(named(DATE, date), body, named(POINT, place));
   if (ours.refusal !== refusal >>> 0) fail(line, `raddlehue.mjs has refusal ${ours.refusal}`);
   if (refusal === 0) {
     const minutes = [ours.rise_minute, ours.set_minute].map((minute) => (minute === undefined ? '0' : hex((BigInt(minute) << 32n) + 1n)));
-    const same = ours.elevations_e8.length === MINUTES && ours.elevations_e8.every((elevation, i) => elevation === view().getBigInt64(curve + 8 * (SIDE + i), true));
-    if (!same || minutes.join(' ') !== said.slice(1, 3).join(' ')) fail(line, 'raddlehue.mjs has another day');
+    if (!same(ours.elevations_e8, new BigInt64Array(raw.memory.buffer, curve + 8 * SIDE, MINUTES)) || minutes.join(' ') !== said.slice(1, 3).join(' ')) fail(line, 'raddlehue.mjs has another day');
   } else if (Object.keys(ours).length > 1) fail(line, 'raddlehue.mjs has more than the refusal');
   return said;
 }
 
-const written = [];
+// ---- strips: a line has the seed of the azimuths and one that is put among them, and for a strip the bytes of its header and how many there are in all
+
+const STRIP = ['air', 'body', 'year', 'month', 'day', 'longitude_e7', 'latitude_e7', 'step_minutes'];
+
+function drawnAzimuth([seed, at, azimuth], i) {
+  const any = Number(BigInt.asUintN(64, (BigInt(seed) + BigInt(i)) * 0x9e3779b97f4a7c15n) >> 32n);
+  if (i === at) return azimuth;
+  return any < 3600000000 ? any : NO_AZIMUTH_E7;
+}
+
+// The azimuths that begin in so many bytes.
+const drawnAzimuths = (bytes, drawn) => Array.from({ length: Math.ceil(bytes / 4) }, (_, i) => drawnAzimuth(drawn, i));
+
+function azimuthBytes(length, drawn) {
+  const list = drawnAzimuths(length, drawn);
+  return Uint8Array.from({ length }, (_, i) => list[i >> 2] >>> (24 - 8 * (i & 3)));
+}
+
+function stripBytes([header, ...numbers]) {
+  const [length, ...drawn] = numbers.map(code);
+  const bytes = [...Buffer.from(header, 'hex'), ...azimuthBytes(Math.max(0, length - STRIP_HEADER), drawn)];
+  return Uint8Array.from(bytes.slice(0, length));
+}
+
+// Where the bytes lie, and how many: none have a null pointer.
+function lay(at, bytes) {
+  memory(at, bytes.length).set(bytes);
+  return [bytes.length ? at : 0, BigInt(bytes.length)];
+}
+
+// What raddlehue.mjs answers: the same refusal and nothing else, or what `agrees` finds right. It lends room enough, so that it has no 28.
+function agree(line, refusal, ours, agrees) {
+  if (refusal === 28) return;
+  if (ours.refusal !== refusal) fail(line, `raddlehue.mjs has refusal ${ours.refusal}`);
+  if (refusal === 0 ? !agrees(ours) : Object.keys(ours).length > 1) fail(line, 'raddlehue.mjs has another answer');
+}
+
+// The strip of a day's azimuths, where there are any.
+function stripOf(date, body, place, step, count) {
+  poison(written, 1, STRIP_ROOM);
+  put(start, [0n, BigInt(body), ...date.slice(0, 3), ...place.slice(0, 2), step]);
+  const refusal = raw.raddlehue_strip_write(start, azimuths + 4 * SIDE, count, written + SIDE, BigInt(STRIP_ROOM), lend());
+  return [...words(refusal, 1), ...longWords(written, 1, STRIP_ROOM)];
+}
+
+function dayAzimuths(given, line) {
+  const [date, body, place] = [given.slice(0, 5).map(big), code(given[5]), given.slice(6, 9).map(big)];
+  const [step, length] = given.slice(9).map(big);
+  put(start, date);
+  put(point, place);
+  poison(azimuths, 4, MINUTES);
+  const refusal = raw.raddlehue_day_azimuths(start, body, point, step, length ? azimuths + 4 * SIDE : 0, length, lend());
+  const said = [...words(refusal, 1), ...longWords(azimuths, 4, MINUTES)];
+  if (refusal === 0) {
+    const list = new Uint32Array(raw.memory.buffer, azimuths + 4 * SIDE, Number(big(said[1])));
+    agree(line, 0, sky.day_azimuths(named(DATE, date), body, named(POINT, place), step), (ours) => same(ours.azimuths_e7, list));
+    said.push(list[0].toString(16), '->', ...stripOf(date, body, place, step, big(said[1])));
+  } else if (refusal !== 28) agree(line, refusal, sky.day_azimuths(named(DATE, date), body, named(POINT, place), step));
+  return said;
+}
+
+function stripWrite(given, line) {
+  const header = given.slice(0, 8).map(big);
+  const [count, seed, at, azimuth, length] = given.slice(8).map(code);
+  const list = drawnAzimuths(4 * count, [seed, at, azimuth]);
+  put(start, header);
+  new Uint32Array(raw.memory.buffer, azimuths, count).set(list);
+  poison(written, 1, STRIP_ROOM);
+  const refusal = raw.raddlehue_strip_write(start, count ? azimuths : 0, BigInt(count), length ? written + SIDE : 0, BigInt(length), lend());
+  const said = [...words(refusal, 1), ...longWords(written, 1, STRIP_ROOM)];
+  const [air, body] = header.slice(0, 2).map(Number);
+  const ours = () => sky.strip_write({ ...named(STRIP, header), air: { kind: air }, body }, list);
+  // raddlehue.mjs throws at a code that has not 32 bits
+  const isCode = (number) => number >= 0 && number <= 0xffffffff;
+  if (isCode(air) && isCode(body)) agree(line, refusal, ours(), ({ bytes }) => same(bytes, memory(written + SIDE, Number(big(said[1])))));
+  else if (refusal !== 101 && refusal !== 102) fail(line, 'a code is no code');
+  return said;
+}
+
+function stripRead(given, line) {
+  const bytes = stripBytes(given);
+  const refusal = raw.raddlehue_strip_read(...lay(strips[0], bytes), lend());
+  const said = words(refusal, 8);
+  const list = drawnAzimuths(bytes.length - STRIP_HEADER, given.slice(2).map(code));
+  agree(line, refusal, sky.strip_read(bytes), ({ refusal: _, azimuths_e7, ...strip }) => {
+    const numbers = Object.values({ ...strip, air: strip.air.kind }).map((number) => hex(BigInt(number)));
+    return same(Object.keys(strip), STRIP) && same(numbers, said.slice(1)) && same(azimuths_e7, list);
+  });
+  return said;
+}
+
+function stripAzimuth(given, line) {
+  const bytes = azimuthBytes(code(given[0]), given.slice(1, 4).map(code));
+  const step = BigInt(`0x${given[4]}`);
+  const refusal = raw.raddlehue_strip_azimuth(...lay(strips[0], bytes), step, lend());
+  const azimuth = view().getUint32(lent + 8 * SIDE, true);
+  agree(line, refusal, sky.strip_azimuth(bytes, step), (ours) => (azimuth === NO_AZIMUTH_E7 ? !('azimuth_e7' in ours) : ours.azimuth_e7 === azimuth));
+  return words(refusal, 1);
+}
+
+function stripFind(given, line) {
+  const pair = [stripBytes(given.slice(0, 5)), stripBytes(given.slice(5, 10))];
+  const date = given.slice(10).map(big);
+  const refusal = raw.raddlehue_strip_find(...lay(strips[0], pair[0]), ...lay(strips[1], pair[1]), ...date, lend());
+  const said = words(refusal, 3);
+  agree(line, refusal, sky.strip_find(...pair, ...date), (ours) => {
+    const [strip, offset, length] = said.slice(1).map(code);
+    return ours.strip === strip && same(ours.azimuths, pair[strip - 1].slice(offset, offset + length));
+  });
+  return said;
+}
+
+const LISTS = { batch, day, day_azimuths: dayAzimuths, strip_write: stripWrite, strip_read: stripRead, strip_azimuth: stripAzimuth, strip_find: stripFind };
+
+const lines = [];
 for (const line of readFileSync(0, 'utf8').split('\n').slice(0, -1)) {
   const [left] = line.split(' -> ');
   const [name, ...given] = left.split(' ');
@@ -157,10 +279,8 @@ for (const line of readFileSync(0, 'utf8').split('\n').slice(0, -1)) {
     const plain = BigInt.asUintN(64, raw[`raddlehue_${name}`](...given.map(big)));
     if (plain !== BigInt.asUintN(64, number)) fail(line, `raddlehue.mjs has ${number}`);
     said = [hex(number)];
-  } else if (name === 'batch') {
-    said = batch(given, line);
-  } else if (name === 'day') {
-    said = day(given, line);
+  } else if (name in LISTS) {
+    said = LISTS[name](given, line);
   } else {
     const [count, arguments_, ours, azimuth] = CALLS[name];
     said = words(raw[`raddlehue_${name}`](...arguments_(given)), count);
@@ -168,6 +288,6 @@ for (const line of readFileSync(0, 'utf8').split('\n').slice(0, -1)) {
     const expected = said[0] === '0' ? said : said.slice(0, 1);
     if (object.join(' ') !== expected.join(' ')) fail(line, `raddlehue.mjs has ${object.join(' ')}`);
   }
-  written.push(`${left} -> ${said.join(' ')}\n`);
+  lines.push(`${left} -> ${said.join(' ')}\n`);
 }
-process.stdout.write(written.join(''));
+process.stdout.write(lines.join(''));

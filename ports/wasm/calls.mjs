@@ -1,8 +1,8 @@
-// node ports/wasm/calls.mjs RADDLEHUE.WASM : raddlehue.mjs as a page uses it. Its own example, days by the minute against single places, a body without an azimuth, eclipses, and what it
-// has to throw at.
+// node ports/wasm/calls.mjs RADDLEHUE.WASM : raddlehue.mjs as a page uses it. Its own example, days by the minute against single places, a body without an azimuth, day strips, eclipses, and
+// what it has to throw at.
 import assert from 'node:assert/strict';
 import { readFileSync } from 'node:fs';
-import { AIR_NONE, AIR_STANDARD, MOON, NO_DIRECTION_E8, SUN, load, measured } from './raddlehue.mjs';
+import { AIR_NONE, AIR_STANDARD, MOON, NO_AZIMUTH_E7, NO_DIRECTION_E8, SUN, load, measured } from './raddlehue.mjs';
 
 const bytes = readFileSync(process.argv[2]);
 const sky = await load(bytes);
@@ -70,6 +70,71 @@ assert.deepEqual(sky.day(date, 2, point), { refusal: 101 });
 assert.throws(() => sky.day({ ...date, year: 2003.5 }, SUN, point), RangeError);
 assert.throws(() => sky.day(start.year, SUN, point), TypeError);
 
+// a day's azimuths against its places, rounded down, and a day whose first minute has none
+for (const [step, count] of [[1, 1440], [2n, 720], [5, 288], [10, 144]]) {
+  const { refusal, azimuths_e7 } = sky.day_azimuths(date, MOON, point, step);
+  assert.ok(refusal === 0 && azimuths_e7 instanceof Uint32Array && azimuths_e7.length === count);
+  for (let entry = 0; entry < count; entry += 47) {
+    const minute = entry * Number(step);
+    const at = { ...start, hour: Math.floor(minute / 60), minute: minute % 60, second: 0 };
+    assert.equal(BigInt(azimuths_e7[entry]), sky.place(at, MOON, point).azimuth_e8 / 10n);
+  }
+}
+const first_day = { year: 1900, month: 1, day: 1, ut1_tenths: -9, delta_t_tenths: -79999 };
+const under_the_sun = { longitude_e7: -1792408461, latitude_e7: -230700717, height_metres: -500 };
+const [none, ...others] = sky.day_azimuths(first_day, SUN, under_the_sun, 10).azimuths_e7;
+assert.ok(none === NO_AZIMUTH_E7 && others.every((azimuth) => azimuth < 3600000000));
+for (const step of [0, 3, -1, 2n ** 63n - 1n]) assert.deepEqual(sky.day_azimuths(date, SUN, point, step), { refusal: 25 });
+assert.deepEqual(sky.day_azimuths({ ...date, month: 13 }, SUN, point, 3), { refusal: 2 });
+assert.deepEqual(sky.day_azimuths(date, 2, point, 10), { refusal: 101 });
+
+// a strip there and back; its header by hand from 02; a view into a longer buffer is as good as the bytes themselves
+const { azimuths_e7 } = sky.day_azimuths(date, MOON, point, 10);
+azimuths_e7[7] = NO_AZIMUTH_E7;
+const header = { air: AIR_NONE, body: MOON, year: 2003, month: 10, day: 17, longitude_e7: -1051786000, latitude_e7: 397424760, step_minutes: 10 };
+const { bytes: strip } = sky.strip_write(header, azimuths_e7);
+assert.ok(strip instanceof Uint8Array && strip.length === 594);
+assert.equal(Buffer.from(strip.subarray(0, 18)).toString('hex'), '0250' + '01' + '00' + '01' + '07d3' + '0a' + '11' + 'c14f04f0' + '17b03878' + '0a');
+const read = sky.strip_read(strip);
+assert.deepEqual(read, { refusal: 0, ...header, azimuths_e7 });
+assert.deepEqual(sky.strip_write(read, [...read.azimuths_e7]), { refusal: 0, bytes: strip });
+const longer = Uint8Array.from([9, ...strip, 9]);
+assert.deepEqual(sky.strip_read(longer.subarray(1, 595)), read);
+assert.deepEqual(sky.strip_read(Buffer.from(strip)), read);
+assert.deepEqual(sky.strip_read(sky.strip_write({ ...header, air: AIR_STANDARD, body: SUN, year: 2003n }, azimuths_e7).bytes).air, AIR_STANDARD);
+
+// the largest strip, which has a step to each minute, beside it: whichever bears the date, and the first if both do
+const minutes = sky.day_azimuths({ ...date, day: 18 }, MOON, point, 1).azimuths_e7;
+const next = sky.strip_write({ ...header, day: 18, step_minutes: 1 }, minutes).bytes;
+assert.equal(next.length, 5778);
+const today = sky.strip_find(strip, next, 2003, 10, 17n);
+assert.deepEqual(today, { refusal: 0, strip: 1, azimuths: strip.slice(18) });
+assert.deepEqual(sky.strip_find(strip, next, 2003, 10, 18), { refusal: 0, strip: 2, azimuths: next.slice(18) });
+assert.deepEqual(sky.strip_find(next, next.slice(), 2003, 10, 18).strip, 1);
+assert.deepEqual(sky.strip_azimuth(today.azimuths, 143n), { refusal: 0, azimuth_e7: azimuths_e7[143] });
+assert.deepEqual(sky.strip_azimuth(today.azimuths, 7), { refusal: 0 });
+assert.deepEqual(sky.strip_find(strip, next, 2003, 10, 19), { refusal: 27 });
+assert.deepEqual(sky.strip_find(strip, next.slice(1), 2003, 10, 17), { refusal: 20 });
+
+// refusals of strips, and what is thrown at
+assert.deepEqual(sky.strip_write({ ...header, air: measured(820, 11) }, azimuths_e7), { refusal: 22 });
+assert.deepEqual(sky.strip_write({ ...header, air: { kind: 3 } }, azimuths_e7), { refusal: 102 });
+assert.deepEqual(sky.strip_write({ ...header, step_minutes: 5 }, azimuths_e7), { refusal: 20 });
+assert.deepEqual(sky.strip_write(header, []), { refusal: 20 });
+assert.deepEqual(sky.strip_write(header, azimuths_e7.map(() => 3600000000)), { refusal: 26 });
+assert.deepEqual(sky.strip_read(new Uint8Array(0)), { refusal: 20 });
+assert.deepEqual(sky.strip_read(strip.map((byte, i) => (i === 2 ? 2 : byte))), { refusal: 21 });
+assert.deepEqual([sky.strip_azimuth(today.azimuths, 144), sky.strip_azimuth(today.azimuths, 2n ** 62n)], [{ refusal: 106 }, { refusal: 106 }]);
+for (const wrong of [[...strip], strip.buffer, 'strip', undefined]) {
+  assert.throws(() => sky.strip_read(wrong), TypeError);
+  assert.throws(() => sky.strip_find(strip, wrong, 2003, 10, 17), TypeError);
+  assert.throws(() => sky.strip_azimuth(wrong, 0), TypeError);
+}
+for (const wrong of [-1, 2 ** 32, 0.5, null, '0', 0n]) assert.throws(() => sky.strip_write(header, [wrong]), RangeError);
+for (const wrong of [{ ...header, year: undefined }, { ...header, air: 0 }, undefined]) assert.throws(() => sky.strip_write(wrong, azimuths_e7));
+for (const wrong of [-1, 0.5, 2n ** 64n]) assert.throws(() => sky.strip_azimuth(today.azimuths, wrong), RangeError);
+assert.throws(() => sky.day_azimuths(date, MOON, point), TypeError);
+
 // 003, Table 4, its first eclipse; a moment without one; a share by itself, a ring; and refusals
 const pacific = { longitude_e7: 1433617000, latitude_e7: 246117000, height_metres: 0 };
 const morning = { ...start, year: 2009, month: 7, day: 22, hour: 2, minute: 33, second: 0, delta_t_tenths: 664 };
@@ -90,5 +155,6 @@ for (const year of [2003.5, NaN, Infinity, undefined, null, '', 'x', 2n ** 63n, 
 for (const body of [-1, 0.5, 2 ** 32, '0', 0n, undefined]) assert.throws(() => sky.place(start, body, point), RangeError);
 assert.throws(() => sky.batch(start, SUN, point, [2 ** 32]), RangeError);
 assert.throws(() => sky.root(-1n), RangeError);
+assert.throws(() => sky.root(''), TypeError);
 assert.equal(sky.root(2n ** 64n - 1n), 2n ** 32n - 1n);
 console.log('wasm: the calls of raddlehue.mjs do as they say');

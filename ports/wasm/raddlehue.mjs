@@ -10,8 +10,8 @@
  * What an answer does not have is missing, neither 0 nor null: the azimuth of a body straight overhead or straight underfoot, a rise or a set that does not come. Names
  * (an azimuth without C's if_any) and numbers are those of include/raddlehue.h and docs/REFUSALS.md; names say their unit (_e7 and _e8 are 1e-7 and 1e-8 degree, _tenths
  * are tenths of a second, _millionths are of the Sun's disk). Whole numbers may be given as Number or BigInt and come back as BigInt, exact; minutes, degrees, mbar and
- * degrees Celsius are Numbers. What is no whole number, or none of 64 bits, is a TypeError or a RangeError; every other number may be given, and what cannot be answered
- * is refused.
+ * degrees Celsius are Numbers, and so is all that a strip holds. What is no whole number, or none of 64 bits, is a TypeError or a RangeError; every other number may be given, and what
+ * cannot be answered is refused.
  *
  *     place(start, body, point[, air])         azimuth_e8, which may be missing, elevation_e8
  *     shown_place(start, body, point[, air])   azimuth_degrees, which may be missing, elevation_degrees, refraction_degrees
@@ -20,6 +20,15 @@
  *     day(date, body, point)                   elevations_e8: a BigInt64Array, the elevation at each of the date's 1,440 minutes of UTC; rise_minute, set_minute: 0 to 1439,
  *                                              the first at which the body is at or above -0.8333 degree and was not the minute before, and the reverse; where there
  *                                              is none, as on a polar day, the name is missing. A date is { year, month, day, ut1_tenths, delta_t_tenths }
+ *     day_azimuths(date, body, point, step_minutes)
+ *                                              azimuths_e7: a Uint32Array, the azimuth at each step of the date from 00:00 UTC on, rounded down, for a strip; where there is none
+ *                                              its entry is NO_AZIMUTH_E7. The step is 1, 2, 5 or 10 minutes
+ *     strip_write(strip, azimuths_e7)          bytes: a Uint8Array, to be sent. A strip is { air, body, year, month, day, longitude_e7, latitude_e7, step_minutes }, its air
+ *                                              AIR_NONE or AIR_STANDARD; its azimuths are a Uint32Array or a list, one for each step
+ *     strip_read(bytes)                        air, body, year, month, day, longitude_e7, latitude_e7, step_minutes: a strip; and azimuths_e7, a Uint32Array. Bytes are a Uint8Array
+ *     strip_find(first, second, year, month, day)
+ *                                              strip: 1 or 2, whichever of two strips' bytes bears the date, the first if both do; azimuths: a Uint8Array, its azimuth bytes
+ *     strip_azimuth(azimuths, step)            azimuth_e7, which may be missing: of a step, counted from 0, in such azimuth bytes
  *     eclipse(start, point)                    separation_e8, of the two centres; sun_radius_e8, moon_radius_e8; share_millionths, of the Sun's disk that the Moon's covers,
  *                                              whether they are up or not
  *     covered_share(separation_e8, sun_radius_e8, moon_radius_e8)
@@ -44,6 +53,9 @@ export const MOON = 1;
 /* What stands in a batch's azimuths where there is none; middle refuses it. */
 export const NO_DIRECTION_E8 = 2n ** 63n - 1n;
 
+/* What stands in a strip's azimuths where there is none. */
+export const NO_AZIMUTH_E7 = 2 ** 32 - 1;
+
 /* The air of a request; measured(pressure_mbar, temperature_celsius) makes the third kind. */
 export const AIR_NONE = Object.freeze({ kind: 0, pressure_mbar: 0, temperature_celsius: 0 });
 export const AIR_STANDARD = Object.freeze({ kind: 1, pressure_mbar: 0, temperature_celsius: 0 });
@@ -52,13 +64,27 @@ export const measured = (pressure_mbar, temperature_celsius) => ({ kind: 2, pres
 const START = ['year', 'month', 'day', 'hour', 'minute', 'second', 'fraction_tenths', 'ut1_tenths', 'delta_t_tenths'];
 const DATE = ['year', 'month', 'day', 'ut1_tenths', 'delta_t_tenths'];
 const POINT = ['longitude_e7', 'latitude_e7', 'height_metres'];
+const STRIP = ['air', 'body', 'year', 'month', 'day', 'longitude_e7', 'latitude_e7', 'step_minutes'];
+const STRIP_HEADER = 18;
 const MINUTES = 1440;
 
-/* A whole number of 64 bits; BigInt() itself throws at a fraction and at NaN. */
-function whole(number, name) {
+/* A whole number; BigInt() itself throws at a fraction and at NaN. */
+function exact(number, name) {
   if (typeof number !== 'number' && typeof number !== 'bigint') throw new TypeError(`${name}: ${number} is no number`);
-  const big = BigInt(number);
+  return BigInt(number);
+}
+
+/* A whole number of 64 bits. */
+function whole(number, name) {
+  const big = exact(number, name);
   if (big !== BigInt.asIntN(64, big)) throw new RangeError(`${name}: ${number} has more than 64 bits`);
+  return big;
+}
+
+/* One from 0 up, as C's uint64_t. */
+function natural(number, name) {
+  const big = exact(number, name);
+  if (big !== BigInt.asUintN(64, big)) throw new RangeError(`${name}: ${number} is no number from 0 to 2^64 - 1`);
   return big;
 }
 
@@ -66,6 +92,11 @@ function whole(number, name) {
 function code(number, name) {
   if (!Number.isInteger(number) || number < 0 || number > 0xffffffff) throw new RangeError(`${name}: ${number} is no number of 32 bits`);
   return number;
+}
+
+/* A list of numbers of 32 bits. */
+function codes(list, name) {
+  return Uint32Array.from(list, (number, i) => code(number, `${name} ${i}`));
 }
 
 /* source: the bytes of raddlehue.wasm, a WebAssembly.Module, or a Response, or a promise of one of these. */
@@ -85,7 +116,7 @@ class Raddlehue {
 
   constructor(instance) {
     this.#raw = instance.exports;
-    // what is handed to a call lies above all that the module has: the start, the point, a place's flag and the answer, then a batch's lists or a day's curve
+    // what is handed to a call lies above all that the module has: the start, the point, a place's flag and the answer, then a batch's lists, a day's curve or strips
     this.#base = this.#raw.__heap_base.value + 15 & ~15;
     this.#memory(256);
   }
@@ -108,6 +139,24 @@ class Raddlehue {
     const view = this.#memory(256);
     numbers.forEach((number, i) => view.setBigInt64(at + 8 * i, number, true));
     return at;
+  }
+
+  /* So many bytes where lists lie, with so many others before them. */
+  #room(bytes, before = 0) {
+    this.#memory(256 + before + bytes);
+    return this.#base + 256 + before;
+  }
+
+  #lay(bytes, name, before = 0) {
+    if (!(bytes instanceof Uint8Array)) throw new TypeError(`${name}: no Uint8Array`);
+    const at = this.#room(bytes.length, before);
+    new Uint8Array(this.#raw.memory.buffer).set(bytes, at);
+    return at;
+  }
+
+  /* How many entries or bytes a call says it wrote. */
+  #count() {
+    return Number(this.#memory(256).getBigUint64(this.#answer, true));
   }
 
   #start(start) {
@@ -168,10 +217,10 @@ class Raddlehue {
 
   batch(start, body, point, offsets) {
     const count = offsets.length;
-    const tenths = Array.from(offsets, (offset, i) => code(offset, `offset ${i}`));
-    const [azimuths, elevations] = [this.#base + 256, this.#base + 256 + 8 * count];
-    const list = elevations + 8 * count;
-    const view = this.#memory(256 + 20 * count);
+    const tenths = codes(offsets, 'offset');
+    const azimuths = this.#room(20 * count);
+    const [elevations, list] = [azimuths + 8 * count, azimuths + 16 * count];
+    const view = this.#memory(256);
     tenths.forEach((offset, i) => view.setUint32(list + 4 * i, offset, true));
     const length = BigInt(count);
     const refusal = this.#raw.raddlehue_batch(
@@ -182,14 +231,13 @@ class Raddlehue {
       answer.azimuths_e8 = new BigInt64Array(buffer.slice(azimuths, azimuths + 8 * count));
       answer.elevations_e8 = new BigInt64Array(buffer.slice(elevations, elevations + 8 * count));
     } else if (refusal === 13) {
-      answer.index = Number(this.#memory(256).getBigUint64(this.#answer, true));
+      answer.index = this.#count();
     }
     return answer;
   }
 
   day(date, body, point) {
-    const curve = this.#base + 256;
-    this.#memory(256 + 8 * MINUTES);
+    const curve = this.#room(8 * MINUTES);
     const refusal = this.#raw.raddlehue_day(this.#put(this.#base, DATE, date), code(body, 'body'), this.#point(point), curve, this.#answer) >>> 0;
     const answer = { refusal };
     if (refusal === 0) {
@@ -199,6 +247,59 @@ class Raddlehue {
       if (told[0]) answer.rise_minute = told[1];
       if (told[2]) answer.set_minute = told[3];
     }
+    return answer;
+  }
+
+  day_azimuths(date, body, point, step_minutes) {
+    const azimuths = this.#room(4 * MINUTES);
+    const refusal = this.#raw.raddlehue_day_azimuths(
+      this.#put(this.#base, DATE, date), code(body, 'body'), this.#point(point), whole(step_minutes, 'step_minutes'), azimuths, BigInt(MINUTES), this.#answer) >>> 0;
+    const answer = { refusal };
+    if (refusal === 0) answer.azimuths_e7 = new Uint32Array(this.#raw.memory.buffer.slice(azimuths, azimuths + 4 * this.#count()));
+    return answer;
+  }
+
+  strip_write(strip, azimuths_e7) {
+    const list = codes(azimuths_e7, 'azimuth');
+    const length = STRIP_HEADER + 4 * list.length;
+    const [bytes, azimuths] = [this.#room(length, 4 * list.length), this.#room(4 * list.length)];
+    const view = this.#memory(256);
+    list.forEach((azimuth, i) => view.setUint32(azimuths + 4 * i, azimuth, true));
+    const header = this.#put(this.#base, STRIP, { ...strip, air: code(strip.air.kind, 'air'), body: code(strip.body, 'body') });
+    const refusal = this.#raw.raddlehue_strip_write(header, azimuths, BigInt(list.length), bytes, BigInt(length), this.#answer) >>> 0;
+    const answer = { refusal };
+    if (refusal === 0) answer.bytes = new Uint8Array(this.#raw.memory.buffer.slice(bytes, bytes + this.#count()));
+    return answer;
+  }
+
+  strip_read(bytes) {
+    const at = this.#lay(bytes, 'bytes');
+    const answer = this.#units(this.#raw.raddlehue_strip_read(at, BigInt(bytes.length), this.#answer) >>> 0, ...STRIP);
+    if (answer.refusal === 0) {
+      for (const name of STRIP) answer[name] = Number(answer[name]);
+      answer.air = answer.air === AIR_NONE.kind ? AIR_NONE : AIR_STANDARD;
+      const view = this.#memory(256);
+      answer.azimuths_e7 = Uint32Array.from({ length: MINUTES / answer.step_minutes }, (_, step) => view.getUint32(at + STRIP_HEADER + 4 * step));
+    }
+    return answer;
+  }
+
+  strip_find(first, second, year, month, day) {
+    const [one, two] = [this.#lay(first, 'first'), this.#lay(second, 'second', first.length)];
+    const refusal = this.#raw.raddlehue_strip_find(
+      one, BigInt(first.length), two, BigInt(second.length), whole(year, 'year'), whole(month, 'month'), whole(day, 'day'), this.#answer) >>> 0;
+    const { strip, offset, length } = this.#units(refusal, 'strip', 'offset', 'length');
+    if (refusal !== 0) return { refusal };
+    const azimuths = (strip === 1n ? one : two) + Number(offset);
+    return { refusal, strip: Number(strip), azimuths: new Uint8Array(this.#raw.memory.buffer.slice(azimuths, azimuths + Number(length))) };
+  }
+
+  strip_azimuth(azimuths, step) {
+    const at = this.#lay(azimuths, 'azimuths');
+    const refusal = this.#raw.raddlehue_strip_azimuth(at, BigInt(azimuths.length), natural(step, 'step'), this.#answer) >>> 0;
+    const answer = { refusal };
+    const azimuth = this.#memory(256).getUint32(this.#answer, true);
+    if (refusal === 0 && azimuth !== NO_AZIMUTH_E7) answer.azimuth_e7 = azimuth;
     return answer;
   }
 
@@ -265,8 +366,6 @@ class Raddlehue {
   }
 
   root(square) {
-    const big = BigInt(square);
-    if (big !== BigInt.asUintN(64, big)) throw new RangeError(`square: ${square} is no number from 0 to 2^64 - 1`);
-    return BigInt.asUintN(64, this.#raw.raddlehue_root(big));
+    return BigInt.asUintN(64, this.#raw.raddlehue_root(natural(square, 'square')));
   }
 }

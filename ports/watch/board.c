@@ -75,6 +75,17 @@ void *memset(void *to, int byte, size_t n) {
     return to;
 }
 
+/* The ordinary Rust version alone compares so. */
+int memcmp(const void *a, const void *b, size_t n) {
+    const uint8_t *x = a, *y = b;
+    for (; n; n--, x++, y++) {
+        if (*x != *y) {
+            return *x - *y;
+        }
+    }
+    return 0;
+}
+
 void __aeabi_memcpy(void *to, const void *from, size_t n) { memmove(to, from, n); }
 void __aeabi_memcpy4(void *to, const void *from, size_t n) { memmove(to, from, n); }
 void __aeabi_memcpy8(void *to, const void *from, size_t n) { memmove(to, from, n); }

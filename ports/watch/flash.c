@@ -1,4 +1,4 @@
-/* An image that calls what a watch calls, for its size alone. */
+/* An image that calls what a watch calls, for its size alone: nothing (EMPTY), all but the strips, or the strips too (STRIPS). */
 #include "raddlehue.h"
 
 static raddlehue_start_t start;
@@ -11,6 +11,11 @@ static raddlehue_batch_t told;
 static raddlehue_date_t date;
 static raddlehue_rise_set_t rise_set;
 static raddlehue_eclipse_t eclipse;
+static uint32_t day_azimuths[RADDLEHUE_STRIP_STEPS(1)];
+static uint8_t first[RADDLEHUE_STRIP_BYTES(1)], second[RADDLEHUE_STRIP_BYTES(1)];
+static raddlehue_strip_t strip;
+static raddlehue_strip_part_t part;
+static uint64_t count;
 static volatile double degrees;
 static volatile uint32_t kept;
 
@@ -22,9 +27,19 @@ int main(void) {
     kept = raddlehue_day(&date, kept, &point, curve, &rise_set);
     kept = raddlehue_eclipse(&start, &point, &eclipse);
     kept = raddlehue_middle(azimuths[0], azimuths[1], &elevations[0]);
+#ifdef STRIPS
+    kept = raddlehue_day_azimuths(&date, kept, &point, kept, day_azimuths, RADDLEHUE_STRIP_STEPS(1), &count);
+    kept = raddlehue_strip_write(&strip, day_azimuths, RADDLEHUE_STRIP_STEPS(1), first, sizeof first, &count);
+    kept = raddlehue_strip_read(second, sizeof second, &strip);
+    kept = raddlehue_strip_find(first, sizeof first, second, sizeof second, kept, kept, kept, &part);
+    kept = raddlehue_strip_azimuth(second, sizeof second, kept, day_azimuths);
+#endif
 #else
     (void)start, (void)point, (void)offsets, (void)azimuths, (void)elevations, (void)place, (void)shown, (void)told, (void)degrees, (void)kept;
     (void)date, (void)curve, (void)rise_set, (void)eclipse, (void)has_azimuth;
+#endif
+#ifndef STRIPS
+    (void)day_azimuths, (void)first, (void)second, (void)strip, (void)part, (void)count;
 #endif
     return 0;
 }

@@ -34,6 +34,12 @@ static raddlehue_rise_set_t rise_set;
 static raddlehue_eclipse_t eclipses[REQUESTS], *eclipse;
 static int64_t azimuth, share;
 static double degrees;
+static uint32_t day_azimuths[RADDLEHUE_STRIP_STEPS(1)], strip_azimuth;
+static int64_t step;
+static raddlehue_strip_t strip;
+static uint8_t first[RADDLEHUE_STRIP_BYTES(1)], second[RADDLEHUE_STRIP_BYTES(1)];
+static raddlehue_strip_part_t part;
+static uint64_t count;
 
 static void nothing(void) {}
 static void a_place(void) { kept = raddlehue_place(start, body, point, RADDLEHUE_AIR_MEASURED, pressure, temperature, &has_azimuth, &place); }
@@ -42,6 +48,14 @@ static void a_shown_place(void) {
 }
 static void a_batch(void) { kept = raddlehue_batch(start, body, point, offsets, SAMPLES, azimuths, SAMPLES, elevations, SAMPLES, &told); }
 static void a_day(void) { kept = raddlehue_day(&date, body, point, curve, &rise_set); }
+static void azimuths_of_a_day(void) { kept = raddlehue_day_azimuths(&date, body, point, step, day_azimuths, RADDLEHUE_STRIP_STEPS(1), &count); }
+static void a_strip_write(void) { kept = raddlehue_strip_write(&strip, day_azimuths, RADDLEHUE_STRIP_STEPS(1), first, sizeof first, &count); }
+static void a_strip_read(void) { kept = raddlehue_strip_read(second, sizeof second, &strip); }
+/* the second bears the date, so that both are looked at */
+static void a_strip_find(void) { kept = raddlehue_strip_find(first, sizeof first, second, sizeof second, strip.year, strip.month, strip.day, &part); }
+static void a_strip_azimuth(void) {
+    kept = raddlehue_strip_azimuth(second + RADDLEHUE_STRIP_HEADER, sizeof second - RADDLEHUE_STRIP_HEADER, RADDLEHUE_STRIP_STEPS(2), &strip_azimuth);
+}
 static void an_eclipse(void) { kept = raddlehue_eclipse(start, point, eclipse); }
 static void a_covered_share(void) { kept = raddlehue_covered_share(eclipse->separation_e8, eclipse->sun_radius_e8, eclipse->moon_radius_e8, &share); }
 static void a_refraction(void) { kept = raddlehue_refraction(elevation, RADDLEHUE_AIR_MEASURED, pressure, temperature, &degrees); }
@@ -113,6 +127,17 @@ static void row(const char *name, void (*call)(void), int turns, uint32_t each) 
     put_text(refused ? "REFUSED\n" : line);
 }
 
+/* The largest strip written, read, looked up and asked for an azimuth. A second one of it, of the day after, is made of the first: only the day's byte differs. */
+static void strip_rows(void) {
+    strip = (raddlehue_strip_t){RADDLEHUE_AIR_STANDARD, RADDLEHUE_MOON, 2003, 10, 17, -1051786000, 397424760, 1};
+    row("strip_write", a_strip_write, REQUESTS, 1);
+    __builtin_memcpy(second, first, sizeof second);
+    second[8]++;
+    row("strip_read", a_strip_read, REQUESTS, 1);
+    row("strip_find", a_strip_find, REQUESTS, 1);
+    row("strip_azimuth", a_strip_azimuth, REQUESTS, 1);
+}
+
 int main(void) {
     seed(1);
     for (int i = 0; i < REQUESTS;) {
@@ -131,7 +156,12 @@ int main(void) {
         row(body ? "shown_place-Moon" : "shown_place-Sun", a_shown_place, REQUESTS, 1);
         row(body ? "batch-Moon" : "batch-Sun", a_batch, REQUESTS, SAMPLES);
         row(body ? "day-Moon" : "day-Sun", a_day, DAYS, MINUTES);
+        step = 10;
+        row(body ? "azimuths_10-Moon" : "azimuths_10-Sun", azimuths_of_a_day, DAYS, RADDLEHUE_STRIP_STEPS(10));
+        step = 1;
+        row(body ? "azimuths_1-Moon" : "azimuths_1-Sun", azimuths_of_a_day, DAYS, RADDLEHUE_STRIP_STEPS(1));
     }
+    strip_rows();
     row("refraction", a_refraction, REQUESTS, 1);
     row("middle", a_middle, REQUESTS, 1);
     /* where nothing is covered, the share would cost next to nothing */

@@ -31,6 +31,10 @@ fn air_of(kind: u32, pressure: f64, temperature: f64) -> Air {
     }
 }
 
+fn date_of(n: &[i64; 5]) -> Date {
+    Date { year: n[0], month: n[1], day: n[2], ut1: n[3], delta_t: n[4] }
+}
+
 fn write<T>(found: Result<T, u8>, lent: &mut T) -> u32 {
     match found {
         Ok(value) => {
@@ -125,10 +129,64 @@ pub extern "C" fn raddlehue_day(n: &[i64; 5], body: u32, point: &[i64; 3], eleva
     if body > 1 {
         return 101;
     }
-    let date = Date { year: n[0], month: n[1], day: n[2], ut1: n[3], delta_t: n[4] };
-    let found = day(date, body_of(body), point_of(point), elevations);
+    let found = day(date_of(n), body_of(body), point_of(point), elevations);
     let told = found.map(|found| [found.rise, found.set].map(|minute| minute.map_or([0, 0], |minute| [1, minute as u32])));
     write(told.map(|[rise, set]| [rise[0], rise[1], set[0], set[1]]), lent)
+}
+
+#[no_mangle]
+pub unsafe extern "C" fn raddlehue_day_azimuths(
+    n: &[i64; 5], body: u32, point: &[i64; 3], step: i64, azimuths: *mut u32, azimuths_length: u64, lent: &mut u64,
+) -> u32 {
+    if body > 1 {
+        return 101;
+    }
+    let azimuths = unsafe { buffer(azimuths, azimuths_length) };
+    write(day_azimuths(date_of(n), body_of(body), point_of(point), step, azimuths).map(|count| count as u64), lent)
+}
+
+#[no_mangle]
+pub unsafe extern "C" fn raddlehue_strip_write(
+    n: &[i64; 8], azimuths: *const u32, azimuths_length: u64, bytes: *mut u8, bytes_length: u64, lent: &mut u64,
+) -> u32 {
+    let [air, body, year, month, day, longitude, latitude, step] = *n;
+    if !(0..=1).contains(&body) {
+        return 101;
+    }
+    if !(0..=2).contains(&air) {
+        return 102;
+    }
+    let strip = Strip { air: air_of(air as u32, 0.0, 0.0), body: body_of(body as u32), year, month, day, longitude, latitude, step };
+    let (azimuths, bytes) = unsafe { (list(azimuths, azimuths_length), buffer(bytes, bytes_length)) };
+    write(write_strip(&strip, azimuths, bytes).map(|count| count as u64), lent)
+}
+
+#[no_mangle]
+pub unsafe extern "C" fn raddlehue_strip_read(bytes: *const u8, bytes_length: u64, lent: &mut [i64; 8]) -> u32 {
+    let found = read_strip(unsafe { list(bytes, bytes_length) });
+    let numbers = found.map(|(strip, _)| {
+        let Strip { air, body, year, month, day, longitude, latitude, step } = strip;
+        [i64::from(air == Air::Standard), i64::from(body == Body::Moon), year, month, day, longitude, latitude, step]
+    });
+    write(numbers, lent)
+}
+
+#[no_mangle]
+pub unsafe extern "C" fn raddlehue_strip_azimuth(azimuths: *const u8, azimuths_length: u64, step: u64, lent: &mut u32) -> u32 {
+    write(strip_azimuth(unsafe { list(azimuths, azimuths_length) }, step), lent)
+}
+
+#[no_mangle]
+pub unsafe extern "C" fn raddlehue_strip_find(
+    first: *const u8, first_length: u64, second: *const u8, second_length: u64, year: i64, month: i64, day: i64, lent: &mut [u64; 3],
+) -> u32 {
+    let (first, second) = unsafe { (list(first, first_length), list(second, second_length)) };
+    let found = find_strip(first, second, [year, month, day]);
+    let part = found.map(|(at, azimuths)| {
+        let strip = if at == 1 { first } else { second };
+        [at as u64, (strip.len() - azimuths.len()) as u64, azimuths.len() as u64]
+    });
+    write(part, lent)
 }
 
 #[no_mangle]

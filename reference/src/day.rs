@@ -11,7 +11,7 @@ pub const MINUTES: usize = 1_440;
 pub const THRESHOLD: i64 = -83_330_000;
 
 /// Tenths of a second in a minute.
-const MINUTE: u32 = 600;
+pub(crate) const MINUTE: u32 = 600;
 
 /// A day of UTC, with the two time corrections that hold all day.
 #[derive(Clone, Copy, Debug, PartialEq, Eq)]
@@ -49,7 +49,7 @@ pub fn day(date: Date, body: Body, point: Point, elevations: &mut [i64; MINUTES]
 }
 
 /// The first moment of the date; its clock exists, so that refusal 4 is never given.
-fn midnight(date: &Date) -> Start {
+pub(crate) fn midnight(date: &Date) -> Start {
     let Date { year, month, day, ut1, delta_t } = *date;
     Start { year, month, day, hour: 0, minute: 0, second: 0, tenth: 0, ut1, delta_t }
 }

@@ -28,6 +28,7 @@ pub mod refraction;
 pub mod request;
 pub mod sheet;
 pub mod sidereal;
+pub mod strip;
 pub mod sun;
 pub mod tables;
 
@@ -44,4 +45,5 @@ pub use refraction::refraction;
 pub use request::{Air, Body, Point, Start};
 pub use sheet::{sheet, sheet_line};
 pub use sidereal::mean_sidereal;
+pub use strip::{day_azimuths, find_strip, read_strip, strip_azimuth, write_strip, Strip, NO_AZIMUTH};
 pub use sun::{sun, Sun};

@@ -38,6 +38,29 @@ pub struct RiseSet {
     pub set_minute: u32,
 }
 
+/// A strip's header as C has it, air and body by their codes.
+#[repr(C)]
+#[derive(Clone, Copy, Default, PartialEq, Eq, Hash)]
+pub struct Strip {
+    pub air: i64,
+    pub body: i64,
+    pub year: i64,
+    pub month: i64,
+    pub day: i64,
+    pub longitude_e7: i64,
+    pub latitude_e7: i64,
+    pub step_minutes: i64,
+}
+
+/// Which of two strips, from 1, and where its azimuth bytes lie.
+#[repr(C)]
+#[derive(Default)]
+pub struct StripPart {
+    pub strip: u64,
+    pub offset: u64,
+    pub length: u64,
+}
+
 // The sizes that `tests/header.c` finds in C.
 const _: () = {
     assert!(size_of::<Start>() == 72);
@@ -47,6 +70,8 @@ const _: () = {
     assert!(size_of::<Batch>() == 16);
     assert!(size_of::<Date>() == 40);
     assert!(size_of::<RiseSet>() == 16);
+    assert!(size_of::<Strip>() == 64);
+    assert!(size_of::<StripPart>() == 24);
     assert!(size_of::<Eclipse>() == 32);
     assert!(size_of::<Instant>() == 16);
     assert!(size_of::<MoonSums>() == 24);
@@ -55,7 +80,7 @@ const _: () = {
 };
 
 // SAFETY: these are the header's declarations, with a reference for each pointer to one thing or to a whole curve: it is never null nor unaligned, and what it lends to be
-// written overlaps nothing else. Every number may be given, so that only the batch, which has pointers with lengths, asks its caller for care.
+// written overlaps nothing else. Every number may be given, so that only the batch and the strips, which have pointers with lengths, ask their caller for care.
 unsafe extern "C" {
     pub safe fn raddlehue_place(
         start: &Start,
@@ -95,6 +120,35 @@ unsafe extern "C" {
         point: &Point,
         elevations_e8: &mut [i64; DAY_MINUTES],
         rise_set: &mut RiseSet,
+    ) -> u32;
+    unsafe fn raddlehue_day_azimuths(
+        date: &Date,
+        body: u32,
+        point: &Point,
+        step_minutes: i64,
+        azimuths_e7: *mut u32,
+        azimuths_length: u64,
+        count: &mut u64,
+    ) -> u32;
+    unsafe fn raddlehue_strip_write(
+        strip: &Strip,
+        azimuths_e7: *const u32,
+        azimuths_length: u64,
+        bytes: *mut u8,
+        bytes_length: u64,
+        written: &mut u64,
+    ) -> u32;
+    unsafe fn raddlehue_strip_read(bytes: *const u8, bytes_length: u64, strip: &mut Strip) -> u32;
+    unsafe fn raddlehue_strip_azimuth(azimuths: *const u8, azimuths_length: u64, step: u64, azimuth_e7: &mut u32) -> u32;
+    unsafe fn raddlehue_strip_find(
+        first: *const u8,
+        first_length: u64,
+        second: *const u8,
+        second_length: u64,
+        year: i64,
+        month: i64,
+        day: i64,
+        part: &mut StripPart,
     ) -> u32;
     pub safe fn raddlehue_eclipse(start: &Start, point: &Point, eclipse: &mut Eclipse) -> u32;
     pub safe fn raddlehue_covered_share(
@@ -149,4 +203,37 @@ pub fn batch(
         )
     };
     (refusal, told)
+}
+
+/// A day's azimuths into a slice.
+pub fn day_azimuths(date: &Date, body: u32, point: &Point, step_minutes: i64, azimuths_e7: &mut [u32], count: &mut u64) -> u32 {
+    let (azimuth, length) = (azimuths_e7.as_mut_ptr(), azimuths_e7.len() as u64);
+    // SAFETY: as in the batch.
+    unsafe { raddlehue_day_azimuths(date, body, point, step_minutes, azimuth, length, count) }
+}
+
+/// A strip from a slice into a slice.
+pub fn strip_write(strip: &Strip, azimuths_e7: &[u32], bytes: &mut [u8], written: &mut u64) -> u32 {
+    let (azimuth, azimuths_length) = (azimuths_e7.as_ptr(), azimuths_e7.len() as u64);
+    // SAFETY: as in the batch.
+    unsafe { raddlehue_strip_write(strip, azimuth, azimuths_length, bytes.as_mut_ptr(), bytes.len() as u64, written) }
+}
+
+/// The header of a slice that is a strip.
+pub fn strip_read(bytes: &[u8], strip: &mut Strip) -> u32 {
+    // SAFETY: as in the batch.
+    unsafe { raddlehue_strip_read(bytes.as_ptr(), bytes.len() as u64, strip) }
+}
+
+/// An azimuth of a slice of azimuth bytes.
+pub fn strip_azimuth(azimuths: &[u8], step: u64, azimuth_e7: &mut u32) -> u32 {
+    // SAFETY: as in the batch.
+    unsafe { raddlehue_strip_azimuth(azimuths.as_ptr(), azimuths.len() as u64, step, azimuth_e7) }
+}
+
+/// A part of one of two slices that are strips.
+pub fn strip_find(first: &[u8], second: &[u8], year: i64, month: i64, day: i64, part: &mut StripPart) -> u32 {
+    let (first_length, second_length) = (first.len() as u64, second.len() as u64);
+    // SAFETY: as in the batch; both strips may be the same memory, since neither is written.
+    unsafe { raddlehue_strip_find(first.as_ptr(), first_length, second.as_ptr(), second_length, year, month, day, part) }
 }

@@ -24,7 +24,7 @@
 //! No function keeps state, reads a clock or panics; each takes about 8 KiB of stack at most, [`rise_set`] 11.5 KB more for its curve. Every number may be given, and what
 //! cannot be answered is a [`Refusal`].
 //!
-//! The package needs no `std`. The feature `alloc` adds `places`, and `std`, which is on unless turned off, that and a [`Start`] from a `SystemTime`.
+//! The package needs no `std`. The feature `alloc` adds `places` and `strip_to_vec`, and `std`, which is on unless turned off, that and a [`Start`] from a `SystemTime`.
 //!
 //! The archive is built by `make lib` in the repository; RADDLEHUE_ARCHIVE may name another directory that holds `libraddlehue.a`.
 #![no_std]
@@ -46,6 +46,7 @@ mod eclipse;
 mod places;
 mod refusal;
 mod request;
+mod strip;
 mod sums;
 
 pub use angles::{arctangent, cosine, middle, refraction, root, sine, LOWEST_REFRACTED_E8};
@@ -56,6 +57,12 @@ pub use places::places;
 pub use places::{direction_in, place, places_into, shown_place, Place, Shown, NO_DIRECTION_E8};
 pub use refusal::Refusal;
 pub use request::{Air, Body, Date, Point, Start};
+#[cfg(feature = "alloc")]
+pub use strip::strip_to_vec;
+pub use strip::{
+    azimuth_in, day_azimuths, find_strip, strip_azimuth, strip_bytes, strip_steps, write_strip, FoundStrip, Strip, StripAir,
+    StripHeader, StripStep, StripSteps, Which, NO_AZIMUTH_E7, STRIP_HEADER,
+};
 pub use sums::{day_count, instant, mean_sidereal, moon_sums, nutation, sun_sums, Instant, MoonSums, Nutation, SunSums};
 
 /// The version of this package, of the C header and of the archive beside them.

@@ -28,6 +28,8 @@ pub enum Refusal {
     OutOfReach,
     /// 105: the separation is not 0 to 18,000,000,000 of 10⁻⁸ degree, the Sun's radius not 20,000,000 to 30,000,000, or the Moon's not 0 to 30,000,000.
     NoDisks,
+    /// 106: the strip has no step of that index.
+    NoStep,
     /// 16: a line that a program reads is not whole numbers with single spaces; no function of this package gives it.
     NotALine,
     /// 1: the year (Gregorian, UTC) is not 1900 to 2100.
@@ -63,17 +65,36 @@ pub enum Refusal {
     NotReduced,
     /// 14: the two azimuths lie exactly half a turn apart, and have no middle.
     Opposite,
+    /// 20: the length is under 16, not that of the bytes, or not that of the step; where a strip is written, another number of azimuths than its step has.
+    StripLength,
+    /// 21: the version byte is not 1.
+    StripVersion,
+    /// 22: the air byte or the body byte is neither 0 nor 1; where a strip is written, the air is measured.
+    StripAirOrBody,
+    /// 23: the date is none of the Gregorian calendar from 1900 to 2100.
+    StripDate,
+    /// 24: the longitude is not within 1,800,000,000 of 10⁻⁷ degree either way, or the latitude not within 900,000,000.
+    StripPoint,
+    /// 25: the step is not 1, 2, 5 or 10 minutes.
+    StripStep,
+    /// 26: an azimuth is not 0 to 3,599,999,999 of 10⁻⁷ degree, and not the mark of an absent one.
+    StripAzimuth,
+    /// 27: neither of two strips bears the date asked for.
+    StripNotFound,
+    /// 28: a buffer is too small for a strip, or for the azimuths of one.
+    StripBuffer,
     /// A number that this package has no name for: the archive is newer.
     Other(u32),
 }
 
 // All that have a name, in the order of the checks.
-const NAMED: [Refusal; 21] = [
+const NAMED: [Refusal; 31] = [
     Refusal::UnknownBody,
     Refusal::UnknownAir,
     Refusal::NoElevation,
     Refusal::OutOfReach,
     Refusal::NoDisks,
+    Refusal::NoStep,
     Refusal::NotALine,
     Refusal::Year,
     Refusal::Month,
@@ -90,6 +111,15 @@ const NAMED: [Refusal; 21] = [
     Refusal::TooLate { index: 0 },
     Refusal::NotReduced,
     Refusal::Opposite,
+    Refusal::StripLength,
+    Refusal::StripVersion,
+    Refusal::StripAirOrBody,
+    Refusal::StripDate,
+    Refusal::StripPoint,
+    Refusal::StripStep,
+    Refusal::StripAzimuth,
+    Refusal::StripNotFound,
+    Refusal::StripBuffer,
 ];
 
 impl Refusal {
@@ -107,6 +137,7 @@ impl Refusal {
                 "NO_DISKS",
                 "the separation is not 0 to 180 degrees, the Sun's radius not 0.2 to 0.3 or the Moon's not 0 to 0.3",
             ),
+            Refusal::NoStep => (106, "NO_STEP", "the strip has no such step"),
             Refusal::NotALine => (16, "NOT_A_LINE", "the line is not whole numbers with single spaces"),
             Refusal::Year => (1, "YEAR", "the year is not 1900 to 2100"),
             Refusal::Month => (2, "MONTH", "the month is not 1 to 12"),
@@ -125,6 +156,25 @@ impl Refusal {
             Refusal::TooLate { .. } => (13, "TOO_LATE", "a start plus offset lies after 2100-12-31 23:59:59.9 UTC"),
             Refusal::NotReduced => (15, "NOT_REDUCED", "an azimuth is not from 0 up to but not 360 degrees"),
             Refusal::Opposite => (14, "OPPOSITE", "two azimuths half a turn apart have no middle"),
+            Refusal::StripLength => (
+                20,
+                "STRIP_LENGTH",
+                "the strip's length does not agree with its bytes, with its step or with the number of azimuths",
+            ),
+            Refusal::StripVersion => (21, "STRIP_VERSION", "the strip is not of version 1"),
+            Refusal::StripAirOrBody => {
+                (22, "STRIP_AIR_OR_BODY", "the strip's air is neither none nor standard, or its body neither Sun nor Moon")
+            }
+            Refusal::StripDate => (23, "STRIP_DATE", "the strip's date is not one of 1900 to 2100 in the Gregorian calendar"),
+            Refusal::StripPoint => {
+                (24, "STRIP_POINT", "the strip's longitude is not within 180 degrees, or its latitude not within 90")
+            }
+            Refusal::StripStep => (25, "STRIP_STEP", "the step is not 1, 2, 5 or 10 minutes"),
+            Refusal::StripAzimuth => {
+                (26, "STRIP_AZIMUTH", "an azimuth of the strip is neither absent nor from 0 up to but not 360 degrees")
+            }
+            Refusal::StripNotFound => (27, "STRIP_NOT_FOUND", "neither strip bears that date"),
+            Refusal::StripBuffer => (28, "STRIP_BUFFER", "the buffer is too small for the strip or its azimuths"),
             Refusal::Other(number) => (number, "UNKNOWN", "unknown refusal"),
         }
     }

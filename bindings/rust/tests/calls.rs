@@ -279,6 +279,354 @@ fn a_refused_day_keeps_the_curve() {
     }
 }
 
+// ---- strips
+
+const STEPS: [i64; 4] = [1, 2, 5, 10];
+const STRIP_DATE: Date = Date::utc(2003, 10, 17).delta_t_tenths(670);
+const HEADER: StripHeader = StripHeader::of(STRIP_DATE, Body::Sun, POINT, 10, Air::Standard);
+
+// Azimuths that no two neighbours share, the least, the greatest and an absent one among them.
+fn some_azimuths(step_minutes: i64) -> Vec<u32> {
+    let mut azimuths: Vec<u32> = (0..strip_steps(step_minutes) as u32).map(|index| 0x0102_0304 + 2_481_611 * index).collect();
+    azimuths[1..4].copy_from_slice(&[0, 3_599_999_999, NO_AZIMUTH_E7]);
+    azimuths
+}
+
+fn some_strip(header: StripHeader) -> Vec<u8> {
+    strip_to_vec(header, &some_azimuths(header.step_minutes)).unwrap()
+}
+
+fn read(bytes: &[u8]) -> Result<Strip<'_>, Refusal> {
+    Strip::try_from(bytes)
+}
+
+// The strip with these bytes from an index on.
+fn with(strip: &[u8], index: usize, bytes: &[u8]) -> Vec<u8> {
+    let mut changed = strip.to_vec();
+    changed[index..index + bytes.len()].copy_from_slice(bytes);
+    changed
+}
+
+#[test]
+fn azimuths_of_a_day_are_places() {
+    for (step, body) in STEPS.into_iter().zip([Body::Sun, Body::Moon, Body::Sun, Body::Moon]) {
+        let steps = strip_steps(step);
+        let mut azimuths = vec![7; steps + 2];
+        assert_eq!(day_azimuths(STRIP_DATE, body, POINT, step, &mut azimuths), Ok(steps));
+        let place_at =
+            |minute: i64| place(Start { hour: minute / 60, minute: minute % 60, second: 0, ..START }, body, POINT, AIR);
+        let found = (0..1440).step_by(step as usize).map(|minute| place_at(minute).unwrap().azimuth_e8.unwrap() / 10);
+        assert!(found.eq(azimuths[..steps].iter().map(|&azimuth| i64::from(azimuth))), "{step}");
+        assert_eq!(azimuths[steps..], [7; 2]);
+    }
+}
+
+#[test]
+fn a_minute_straight_overhead_or_underfoot_is_absent() {
+    let date = |year, month, day| Date::utc(year, month, day).delta_t_tenths(688);
+    let oahu = Point { longitude_e7: -1_581_709_847, latitude_e7: 215_390_192, height_metres: 0 };
+    let pacific = Point { longitude_e7: -1_396_639_251, latitude_e7: 215_638_686, height_metres: 0 };
+    for (date, body, point, minute) in
+        [(date(2027, 5, 28), Body::Sun, oahu, 1350), (date(2026, 11, 15), Body::Moon, pacific, 840)]
+    {
+        let mut azimuths = [0; DAY_MINUTES];
+        assert_eq!(day_azimuths(date, body, point, 1, &mut azimuths), Ok(1440));
+        let absent: Vec<usize> = (0..1440).filter(|&minute| azimuth_in(azimuths[minute]).is_none()).collect();
+        assert_eq!(absent, [minute]);
+        let bytes = strip_to_vec(StripHeader::of(date, body, point, 1, Air::None), &azimuths).unwrap();
+        assert_eq!(read(&bytes).unwrap().azimuth(minute), Ok(None));
+    }
+}
+
+#[test]
+fn refused_azimuths_of_a_day_write_nothing() {
+    let far = Point { longitude_e7: 1_800_000_001, latitude_e7: i64::MAX, height_metres: i64::MIN };
+    let requests = [
+        (Date { year: 1899, month: 13, ..STRIP_DATE }, far, 3, Refusal::Year),
+        (Date { month: 13, day: 0, ..STRIP_DATE }, far, 3, Refusal::Month),
+        (Date { day: 32, ..STRIP_DATE.ut1_tenths(10) }, far, 3, Refusal::Day),
+        (STRIP_DATE.ut1_tenths(10).delta_t_tenths(80_001), far, 3, Refusal::Ut1),
+        (STRIP_DATE.delta_t_tenths(-80_001), far, 3, Refusal::DeltaT),
+        (STRIP_DATE, far, 3, Refusal::Longitude),
+        (STRIP_DATE, Point { longitude_e7: -1_800_000_000, ..far }, 3, Refusal::Latitude),
+        (STRIP_DATE, Point { height_metres: 9_001, ..POINT }, 3, Refusal::Height),
+    ];
+    let no_steps = [i64::MIN, -10, -1, 0, 3, 4, 6, 9, 11, 15, 60, 1440, 257, 4_294_967_297, i64::MIN + 1, i64::MAX];
+    let steps = no_steps.map(|step| (STRIP_DATE, POINT, step, Refusal::StripStep));
+    let short = STEPS.map(|step| (STRIP_DATE, POINT, step, Refusal::StripBuffer));
+    for (date, point, step, refusal) in requests.into_iter().chain(steps).chain(short) {
+        for length in [0, strip_steps(step).saturating_sub(1)] {
+            let mut azimuths = vec![7; length];
+            assert_eq!(day_azimuths(date, Body::Moon, point, step, &mut azimuths), Err(refusal), "{step}");
+            assert!(azimuths.iter().all(|&azimuth| azimuth == 7), "{step}");
+        }
+    }
+}
+
+// 02's words, byte by byte.
+#[test]
+fn the_bytes_of_a_strip() {
+    let bytes = some_strip(StripHeader { air: Air::None, body: Body::Moon, latitude_e7: -1, ..HEADER });
+    let length = 592_u16.to_be_bytes();
+    let year = 2003_u16.to_be_bytes();
+    let longitude = (-1_051_786_000_i32).to_be_bytes();
+    let latitude = [255; 4];
+    let header_bytes = [&length[..], &[1, 0, 1], &year, &[10, 17], &longitude, &latitude, &[10]].concat();
+    assert_eq!(bytes[..STRIP_HEADER], header_bytes);
+    assert_eq!(bytes[STRIP_HEADER..][..16], [1, 2, 3, 4, 0, 0, 0, 0, 0xd6, 0x93, 0xa3, 0xff, 255, 255, 255, 255]);
+    let azimuths = some_azimuths(10).into_iter().flat_map(u32::to_be_bytes);
+    assert!(bytes[STRIP_HEADER..].iter().copied().eq(azimuths));
+}
+
+#[test]
+fn what_was_written_is_read_and_what_was_read_is_written() {
+    let ends = [(-1_800_000_000, 900_000_000), (1_800_000_000, -900_000_000), (0, 0), (-1, 1)];
+    let dates = [(1900, 1, 1), (2100, 12, 31), (2000, 2, 29), (2026, 9, 30)];
+    for (index, step_minutes) in STEPS.into_iter().enumerate() {
+        for (air, body) in [(Air::None, Body::Sun), (Air::None, Body::Moon), (Air::Standard, Body::Sun)] {
+            let ((longitude_e7, latitude_e7), (year, month, day)) = (ends[index], dates[index]);
+            let header = StripHeader { air, body, year, month, day, longitude_e7, latitude_e7, step_minutes };
+            let azimuths = some_azimuths(step_minutes);
+            let mut bytes = vec![7; strip_bytes(step_minutes) + 3];
+            let length = write_strip(header, &azimuths, &mut bytes).unwrap();
+            assert_eq!((length, &bytes[length..]), (strip_bytes(step_minutes), &[7; 3][..]));
+            let strip = read(&bytes[..length]).unwrap();
+            assert_eq!(strip.header(), header);
+            let again: Vec<u32> = strip.iter().map(|step| step.azimuth_e7.unwrap_or(NO_AZIMUTH_E7)).collect();
+            assert_eq!(again, azimuths);
+            assert_eq!(strip_to_vec(strip.header(), &again).as_deref(), Ok(strip.bytes()));
+        }
+    }
+}
+
+// What refuses a strip first comes first; the buffer is too small in all of them.
+#[test]
+fn a_refused_strip_writes_nothing() {
+    let azimuths = some_azimuths(10);
+    let over = [&azimuths[1..], &[3_600_000_000]].concat();
+    let step = StripHeader { step_minutes: 3, ..HEADER };
+    let point = StripHeader { longitude_e7: 1_800_000_001, ..step };
+    let date = StripHeader { day: 32, ..point };
+    let requests = [
+        (StripHeader { air: AIR, ..date }, Refusal::StripAirOrBody),
+        (StripHeader { air: AIR, ..HEADER }, Refusal::StripAirOrBody),
+        (date, Refusal::StripDate),
+        (StripHeader { year: 1899, ..HEADER }, Refusal::StripDate),
+        (StripHeader { year: 2101, ..HEADER }, Refusal::StripDate),
+        (StripHeader { month: 0, ..HEADER }, Refusal::StripDate),
+        (StripHeader { year: 1900, month: 2, day: 29, ..HEADER }, Refusal::StripDate),
+        (StripHeader { year: 2003 + 65_536, ..HEADER }, Refusal::StripDate),
+        (StripHeader { day: 17 + 256, ..HEADER }, Refusal::StripDate),
+        (point, Refusal::StripPoint),
+        (StripHeader { longitude_e7: -1_800_000_001, ..HEADER }, Refusal::StripPoint),
+        (StripHeader { latitude_e7: 900_000_001, ..HEADER }, Refusal::StripPoint),
+        (StripHeader { latitude_e7: -900_000_001, ..HEADER }, Refusal::StripPoint),
+        (StripHeader { latitude_e7: 1 << 32, ..HEADER }, Refusal::StripPoint),
+        (step, Refusal::StripStep),
+        (StripHeader { step_minutes: 10 + 256, ..HEADER }, Refusal::StripStep),
+        (StripHeader { step_minutes: i64::MIN, ..HEADER }, Refusal::StripStep),
+        (StripHeader { step_minutes: 5, ..HEADER }, Refusal::StripLength),
+        (HEADER, Refusal::StripAzimuth),
+    ];
+    let refused = |header, azimuths: &[u32], length, refusal| {
+        let mut bytes = vec![7; length];
+        assert_eq!(write_strip(header, azimuths, &mut bytes), Err(refusal), "{header:?}");
+        assert_eq!(bytes, vec![7; length]);
+    };
+    for (header, refusal) in requests {
+        refused(header, &over, 593, refusal);
+        assert_eq!(strip_to_vec(header, &over), Err(refusal));
+    }
+    for count in [0, 1, 143] {
+        refused(HEADER, &azimuths[..count], 0, Refusal::StripLength);
+    }
+    refused(HEADER, &[&over[..], &[0]].concat(), 600, Refusal::StripLength);
+    for length in [0, 1, 2, 18, 593] {
+        refused(HEADER, &azimuths, length, Refusal::StripBuffer);
+    }
+}
+
+#[test]
+fn azimuths_that_no_strip_has() {
+    let bytes = some_strip(HEADER);
+    for at in [0, 1, 143] {
+        for azimuth in [3_600_000_000, 3_600_000_001, NO_AZIMUTH_E7 - 1] {
+            let mut azimuths = some_azimuths(10);
+            azimuths[at] = azimuth;
+            assert_eq!(strip_to_vec(HEADER, &azimuths), Err(Refusal::StripAzimuth));
+            let changed = with(&bytes, STRIP_HEADER + 4 * at, &azimuth.to_be_bytes());
+            assert_eq!(read(&changed), Err(Refusal::StripAzimuth), "{at} {azimuth}");
+            assert_eq!(strip_azimuth(&changed[STRIP_HEADER..], at), Err(Refusal::StripAzimuth));
+        }
+        for azimuth in [0, 3_599_999_999, NO_AZIMUTH_E7] {
+            let changed = with(&bytes, STRIP_HEADER + 4 * at, &azimuth.to_be_bytes());
+            assert_eq!(read(&changed).unwrap().azimuth(at), Ok(azimuth_in(azimuth)));
+        }
+    }
+}
+
+#[test]
+fn strips_of_another_length_are_refused() {
+    let bytes = some_strip(HEADER);
+    for length in 0..bytes.len() {
+        assert_eq!(read(&bytes[..length]), Err(Refusal::StripLength), "{length}");
+    }
+    assert_eq!(read(&[&bytes[..], &[0]].concat()), Err(Refusal::StripLength));
+    for length in [0_u16, 15, 16, 591, 593, 594, 65_535] {
+        assert_eq!(read(&with(&bytes, 0, &length.to_be_bytes())), Err(Refusal::StripLength), "{length}");
+    }
+    // A length that is the buffer's own, and under 16.
+    let short = [&13_u16.to_be_bytes()[..], &bytes[2..15]].concat();
+    assert_eq!(read(&short), Err(Refusal::StripLength));
+    // A length that is the buffer's own, and not that of the step.
+    for (step, length) in [(10, 588), (10, 593), (10, 596), (5, 592), (1, 592), (10, 16)] {
+        let cut = [&u16::to_be_bytes(length)[..], &bytes[2..17], &[step], &[0; 600][..usize::from(length) - 16]].concat();
+        assert_eq!(read(&cut), Err(Refusal::StripLength), "{step} {length}");
+    }
+}
+
+// Each fault with all that come after it, and by itself: an azimuth above all, a length that is not the step's, then the header backwards.
+#[test]
+fn the_first_refusal_of_a_strip() {
+    let good = some_strip(HEADER);
+    let faults: [(usize, &[u8], Refusal); 12] = [
+        (18, &[255, 255, 255, 254], Refusal::StripAzimuth),
+        (17, &[5], Refusal::StripLength),
+        (17, &[3], Refusal::StripStep),
+        (17, &[0], Refusal::StripStep),
+        (13, &900_000_001_i32.to_be_bytes(), Refusal::StripPoint),
+        (9, &(-1_800_000_001_i32).to_be_bytes(), Refusal::StripPoint),
+        (8, &[0], Refusal::StripDate),
+        (7, &[13], Refusal::StripDate),
+        (5, &1899_u16.to_be_bytes(), Refusal::StripDate),
+        (4, &[2], Refusal::StripAirOrBody),
+        (3, &[2], Refusal::StripAirOrBody),
+        (2, &[0], Refusal::StripVersion),
+    ];
+    let mut worse = good.clone();
+    for (index, bytes, refusal) in faults {
+        worse = with(&worse, index, bytes);
+        assert_eq!(read(&worse), Err(refusal), "{index} with what is behind it");
+        assert_eq!(read(&with(&good, index, bytes)), Err(refusal), "{index}");
+        // The length is judged against the step only once the header has passed.
+        let at_odds = with(&good, 17, &[5]);
+        assert!(index > 16 || read(&with(&at_odds, index, bytes)) == Err(refusal), "{index}");
+    }
+    for version in [2, 255] {
+        assert_eq!(read(&with(&good, 2, &[version])), Err(Refusal::StripVersion));
+    }
+    assert_eq!(read(&worse[..593]), Err(Refusal::StripLength));
+}
+
+fn shared_by_threads<T: Send + Sync + Copy>(_: T) {}
+
+#[test]
+fn a_strip_is_a_view() {
+    let header = StripHeader { air: Air::None, ..HEADER };
+    let bytes = some_strip(header);
+    let strip = read(&bytes).unwrap();
+    assert!(std::ptr::eq(strip.bytes(), &bytes[..]));
+    assert!(std::ptr::eq(strip.azimuth_bytes(), &bytes[STRIP_HEADER..]));
+    assert_eq!((strip.air(), read(&some_strip(HEADER)).unwrap().air()), (StripAir::None, StripAir::Standard));
+    assert_eq!((strip.body(), strip.step_minutes(), strip.steps()), (Body::Sun, 10, 144));
+    assert_eq!((strip.year(), strip.month(), strip.day()), (2003, 10, 17));
+    assert_eq!((strip.longitude_e7(), strip.latitude_e7()), (POINT.longitude_e7, POINT.latitude_e7));
+    let found = find_strip(&bytes, &bytes, 2003, 10, 17).unwrap();
+    shared_by_threads((strip, found));
+    for shown in [format!("{strip:?}"), format!("{:?}", strip.iter()), format!("{found:?}")] {
+        assert!(shown.len() < 300 && shown.contains("Strip"), "{shown}");
+    }
+    // What is handed on lives as long as the bytes, and longer than the view.
+    let kept = { read(&bytes).unwrap().azimuth_bytes() };
+    assert_eq!(strip_azimuth(kept, 0), Ok(Some(0x0102_0304)));
+}
+
+#[test]
+fn steps_come_from_either_end_and_are_counted() {
+    for step_minutes in STEPS {
+        let bytes = some_strip(StripHeader { step_minutes, ..HEADER });
+        let strip = read(&bytes).unwrap();
+        let steps: Vec<StripStep> = strip.into_iter().collect();
+        assert_eq!(steps.len(), strip_steps(step_minutes));
+        for (index, step) in steps.iter().enumerate() {
+            assert_eq!(usize::from(step.minute), index * step_minutes as usize);
+            assert_eq!(strip.azimuth(index), Ok(step.azimuth_e7));
+            assert_eq!(strip.at_minute(step.minute), Ok(step.azimuth_e7));
+        }
+        assert!((&strip).into_iter().rev().eq(steps.iter().rev().copied()));
+        let mut left = strip.iter();
+        assert_eq!((left.next(), left.next_back(), left.len()), (Some(steps[0]), steps.last().copied(), steps.len() - 2));
+        assert_eq!((left.nth(1), left.len(), left.size_hint().1), (Some(steps[2]), steps.len() - 4, Some(steps.len() - 4)));
+        assert_eq!((left.nth(2000), left.next(), left.next_back(), left.len()), (None, None, None, 0));
+        let between = (0..1440).filter(|minute| i64::from(minute % step_minutes as u16) != 0);
+        for minute in between.chain([1440, 1450, 14_400, u16::MAX]) {
+            assert_eq!(strip.at_minute(minute), Err(Refusal::NoStep), "{minute}");
+        }
+    }
+}
+
+#[test]
+fn steps_beyond_the_last() {
+    let bytes = some_strip(HEADER);
+    let azimuths = read(&bytes).unwrap().azimuth_bytes();
+    for index in [144, 145, 1 << 30, 1 << 62, (1 << 62) + 1, usize::MAX / 4, usize::MAX - 1, usize::MAX] {
+        assert_eq!(read(&bytes).unwrap().azimuth(index), Err(Refusal::NoStep), "{index}");
+        assert_eq!(strip_azimuth(azimuths, index), Err(Refusal::NoStep), "{index}");
+    }
+    // Bytes that are no whole number of azimuths.
+    for length in 0..9 {
+        let whole = length / 4;
+        assert_eq!(strip_azimuth(&azimuths[..length], whole), Err(Refusal::NoStep));
+        assert!((0..whole).all(|index| strip_azimuth(&azimuths[..length], index).is_ok()));
+    }
+}
+
+#[test]
+fn the_strip_that_bears_the_date() {
+    let on = |day, step_minutes| some_strip(StripHeader { day, step_minutes, ..HEADER });
+    let (first, second) = (on(17, 10), on(18, 5));
+    let part = |strip: &[u8], which, found: Result<FoundStrip<'_>, Refusal>| {
+        let found = found.unwrap();
+        assert!(found.which == which && std::ptr::eq(found.azimuth_bytes, &strip[STRIP_HEADER..]), "{found:?}");
+    };
+    part(&first, Which::First, find_strip(&first, &second, 2003, 10, 17));
+    part(&second, Which::Second, find_strip(&first, &second, 2003, 10, 18));
+    part(&second, Which::First, find_strip(&second, &first, 2003, 10, 18));
+    // Both bear it: the first, whose step is another.
+    part(&first, Which::First, find_strip(&first, &on(17, 1), 2003, 10, 17));
+    for (year, month, day) in [(2003, 10, 16), (2003, 11, 17), (2002, 10, 17), (2003, 17, 10), (i64::MAX, 10, 17)] {
+        assert_eq!(find_strip(&first, &second, year, month, day), Err(Refusal::StripNotFound));
+    }
+    for day in [17 + 256, 17 + (1 << 32), i64::MIN] {
+        assert_eq!(find_strip(&first, &second, 2003, 10, day), Err(Refusal::StripNotFound));
+    }
+}
+
+#[test]
+fn a_lookup_judges_both_strips() {
+    let good = some_strip(HEADER);
+    let faults: [(usize, &[u8], Refusal); 7] = [
+        (0, &[0, 0], Refusal::StripLength),
+        (2, &[0], Refusal::StripVersion),
+        (4, &[2], Refusal::StripAirOrBody),
+        (8, &[0], Refusal::StripDate),
+        (13, &[127; 4], Refusal::StripPoint),
+        (17, &[3], Refusal::StripStep),
+        (590, &[255, 255, 255, 254], Refusal::StripAzimuth),
+    ];
+    for (index, bytes, refusal) in faults {
+        let bad = with(&good, index, bytes);
+        for (day, other) in [(17, Refusal::StripVersion), (18, Refusal::StripVersion)] {
+            assert_eq!(find_strip(&bad, &good, 2003, 10, day), Err(refusal));
+            assert_eq!(find_strip(&good, &bad, 2003, 10, day), Err(refusal), "the first bears the date, or neither");
+            assert_eq!(find_strip(&bad, &with(&good, 2, &[9]), 2003, 10, day), Err(refusal), "the first strip's comes first");
+            assert_eq!(find_strip(&with(&good, 2, &[9]), &bad, 2003, 10, day), Err(other));
+        }
+    }
+    assert_eq!(find_strip(&[], &good, 2003, 10, 17), Err(Refusal::StripLength));
+    assert_eq!(find_strip(&good, &[], 2003, 10, 17), Err(Refusal::StripLength));
+}
+
 // ---- eclipses
 
 // 003, Table 4, its first and its last: the whole Sun, and a ring.
@@ -462,10 +810,12 @@ fn constants_are_the_headers() {
         ("DEGREE_E8", DEGREE_E8),
         ("NO_DIRECTION_E8", NO_DIRECTION_E8),
         ("DAY_MINUTES", DAY_MINUTES as i64),
+        ("STRIP_HEADER", STRIP_HEADER as i64),
+        ("NO_AZIMUTH_E7", NO_AZIMUTH_E7.into()),
         ("RISE_SET_E8", RISE_SET_E8),
         ("LOWEST_REFRACTED_E8", LOWEST_REFRACTED_E8),
     ] {
-        // A number below zero stands in brackets.
-        assert_eq!(defined(name).trim_matches(['(', ')']), number.to_string(), "{name}");
+        // A number below zero stands in brackets, and an unsigned one before a u.
+        assert_eq!(defined(name).trim_matches(['(', ')', 'u']), number.to_string(), "{name}");
     }
 }

@@ -31,6 +31,9 @@ out-of-reach = 104
 abbrev pub no-disks : ℕ
 no-disks = 105
 
+abbrev pub no-step : ℕ
+no-step = 106
+
 -- the codes of a body
 abbrev pub sun : ℕ
 sun = 0
@@ -59,6 +62,23 @@ air-of kind pressure temperature = cond (eqb kind none) None (cond (eqb kind sta
 
 abbrev pub kind-refusal : ℕ → ℕ
 kind-refusal kind = unknown-air unless leb kind measured
+
+-- the code of a body, and the kind of an air
+abbrev pub code-of : Body → ℕ
+code-of Sun = sun
+code-of Moon = moon
+
+abbrev pub kind-of : Air → ℕ
+kind-of None = none
+kind-of Standard = standard
+kind-of (Measured pressure temperature) = measured
+
+-- a code that is given in 64 bits: what is no number of 32 bits counts as the largest, which is no code
+abbrev pub largest : ℕ
+largest = 4_294_967_295
+
+abbrev pub code-in : ℤ → ℕ
+code-in number = cond (between (pos 0) number (pos largest)) (natAbs number) largest
 
 -- the body is judged first
 abbrev pub code-refusal : ℕ → ℕ → ℕ

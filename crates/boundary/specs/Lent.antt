@@ -3,10 +3,12 @@ use mathlib.Core.Bool.{Bool, cond}
 use mathlib.Core.List.{List, [], _∷_}
 use Prim.Native.Nat.{ℕ}
 use lib.Ieee.{Float}
-use lib.IntN.{ℤ}
+use lib.IntN.{pos, ℤ}
 use Rattle.day.specs.Answer.{RiseSetNumbers}
 use Rattle.sky.specs.Answer.{PlaceNumbers}
 use Rattle.sky.specs.declared.shown.Shown.{Shown}
+use Rattle.strip.specs.declared.header.Header.{Header}
+use Rattle.boundary.specs.Codes.{code-of, kind-of}
 
 -- 1 where there is something, and 0 where there is none
 abbrev pub flag : Bool → ℕ
@@ -29,3 +31,8 @@ shown-values p = p .azimuth ∷ p .elevation ∷ p .refraction ∷ []
 -- a flag and a minute for the rise, then for the set
 abbrev pub rise-set-values : RiseSetNumbers → List ℕ
 rise-set-values seen = seen .rise .has ∷ seen .rise .minute ∷ seen .set .has ∷ seen .set .minute ∷ []
+
+-- air and body by their codes, year, month, day, longitude, latitude and step
+abbrev pub header-values : Header → List ℤ
+header-values h =
+    pos (kind-of (h .air)) ∷ pos (code-of (h .body)) ∷ h .year ∷ h .month ∷ h .day ∷ h .longitude ∷ h .latitude ∷ h .step ∷ []

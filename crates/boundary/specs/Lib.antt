@@ -1,3 +1,3 @@
-pub mod Given
 pub mod Codes
+pub mod Given
 pub mod Lent

@@ -1,11 +1,12 @@
 // The body and the air of a request, which C gives by a code. An unknown code is read as the last one, and refused before that matters.
 use calendar::refusal::Verdict;
 use calendar::refusal::number_of;
+use numbers::whole::is_between;
 use refraction::air::Air;
 use sky_vectors::geocentric::Body;
 ghost use mathlib.Core.Path.{_≡_};
 ghost use Rattle.calendar.specs.Refusal.{_else_, verdict-number};
-ghost use Rattle.boundary.specs.Codes.{air-of, body-of, body-refusal, code-refusal, kind-refusal};
+ghost use Rattle.boundary.specs.Codes.{air-of, body-of, body-refusal, code-in, code-of, code-refusal, kind-of, kind-refusal};
 
 // The refusals outside 01's numbers.
 pub const UNKNOWN_BODY: u32 = 101;
@@ -18,10 +19,15 @@ pub const OUT_OF_REACH: u32 = 104;
 
 pub const NO_DISKS: u32 = 105;
 
+pub const NO_STEP: u32 = 106;
+
 // The codes of a body.
 const SUN: u32 = 0;
 
 const MOON: u32 = 1;
+
+// The largest number of 32 bits.
+const LARGEST: u32 = 4_294_967_295;
 
 // The kinds of an air.
 const NONE: u32 = 0;
@@ -66,6 +72,37 @@ pub fn or_next(refusal: u32, next: u32) -> u32
     ensures { λ r. ⌜ r ≡ refusal else next ⌝ }
 {
     if refusal == 0 { next } else { refusal }
+}
+
+// The code of a body, and the kind of an air.
+pub fn code_of(body: Body) -> u32
+    ensures { λ r. ⌜ r ≡ code-of body ⌝ }
+{
+    match body {
+        Body::Sun => SUN,
+        Body::Moon => MOON,
+    }
+}
+
+pub fn kind_of(air: Air) -> u32
+    ensures { λ r. ⌜ r ≡ kind-of air ⌝ }
+{
+    match air {
+        Air::None => NONE,
+        Air::Standard => STANDARD,
+        Air::Measured(_, _) => MEASURED,
+    }
+}
+
+// A code that is given in 64 bits. What is no number of 32 bits is no code: it counts as the largest.
+pub fn code_in(number: i64) -> u32
+    ensures { λ r. ⌜ r ≡ code-in number ⌝ }
+{
+    if is_between(0, number, LARGEST as i64) {
+        number as u32
+    } else {
+        LARGEST
+    }
 }
 
 // The body is judged first.

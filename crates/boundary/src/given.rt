@@ -1,11 +1,16 @@
-// A start, a date and a point as C hands them over: their numbers in order.
+// A start, a date, a point and a strip's header as C hands them over: their numbers in order.
+use super::codes::air_of;
+use super::codes::body_of;
+use super::codes::code_in;
+use super::codes::code_refusal;
 use day::date::Date;
 use request::start::Start;
 use sky_vectors::station::Point;
+use strip::header::Header;
 ghost use mathlib.Core.Path.{_≡_};
 ghost use Rattle.day.specs.Date.{date-from};
 ghost use Rattle.request.specs.Request.{start-from};
-ghost use Rattle.boundary.specs.Given.{point-from};
+ghost use Rattle.boundary.specs.Given.{header-code-refusal, header-from, point-from};
 
 pub fn start_of(numbers: &[i64; 9]) -> Start
     ensures { λ r. ⌜ r ≡ start-from (now (numbers .entry)) ⌝ }
@@ -42,5 +47,28 @@ pub fn point_of(numbers: &[i64; 3]) -> Point
         longitude: numbers[0],
         latitude: numbers[1],
         height: numbers[2],
+    }
+}
+
+// The codes of air and body, judged before the header is formed.
+pub fn header_refusal(numbers: &[i64; 8]) -> u32
+    ensures { λ r. ⌜ r ≡ header-code-refusal (now (numbers .entry)) ⌝ }
+{
+    code_refusal(code_in(numbers[1]), code_in(numbers[0]))
+}
+
+// Of measured air no pressure and no temperature is asked, since it is refused.
+pub fn header_of(numbers: &[i64; 8]) -> Header
+    ensures { λ r. ⌜ r ≡ header-from (now (numbers .entry)) ⌝ }
+{
+    Header {
+        air: air_of(code_in(numbers[0]), 0.0, 0.0),
+        body: body_of(code_in(numbers[1])),
+        year: numbers[2],
+        month: numbers[3],
+        day: numbers[4],
+        longitude: numbers[5],
+        latitude: numbers[6],
+        step: numbers[7],
     }
 }

@@ -1,17 +1,20 @@
 // What is written behind a reference to an array, whole: the logic is not told how long the list behind such a reference is.
+use super::codes::code_of;
+use super::codes::kind_of;
 use arctangent::direction::angle_or;
 use arctangent::direction::is_there;
 use day::answer::RiseSet;
 use day::crossing::Crossing;
 use sky::shown::Shown;
 use sky_vectors::place::Place;
+use strip::header::Header;
 ghost use mathlib.Core.List.{[], _∷_};
 ghost use mathlib.Core.Path.{_≡_};
 ghost use Rattle.day.specs.Answer.{rise-set-numbers};
 ghost use Rattle.day.specs.Crossing.{crossing-numbers};
 ghost use Rattle.sky.specs.Answer.{place-numbers};
 ghost use Rattle.sky_vectors.specs.Place.{InTurns};
-ghost use Rattle.boundary.specs.Lent.{flag, place-flag, place-values, rise-set-values, shown-flag, shown-values};
+ghost use Rattle.boundary.specs.Lent.{flag, header-values, place-flag, place-values, rise-set-values, shown-flag, shown-values};
 
 pub fn put_pair(pair: &mut [i64; 2], first: i64, second: i64)
     ensures { λ _. ⌜ now (pair .exit) ≡ first ∷ second ∷ [] ⌝ }
@@ -96,4 +99,29 @@ pub fn put_rise_set(lent: &mut [u32; 4], seen: RiseSet)
         has_minute(set),
         minute_of(set),
     ];
+}
+
+// Air and body by their codes, year, month, day, longitude, latitude and step.
+pub fn put_header(lent: &mut [i64; 8], header: Header)
+    ensures { λ _. ⌜ now (lent .exit) ≡ header-values header ⌝ }
+{
+    let air = header.air;
+    let body = header.body;
+    *lent = [
+        kind_of(air) as i64,
+        code_of(body) as i64,
+        header.year,
+        header.month,
+        header.day,
+        header.longitude,
+        header.latitude,
+        header.step,
+    ];
+}
+
+// Which strip, where its azimuth octets begin, and how many there are.
+pub fn put_part(lent: &mut [u64; 3], strip: u64, offset: u64, length: u64)
+    ensures { λ _. ⌜ now (lent .exit) ≡ strip ∷ offset ∷ length ∷ [] ⌝ }
+{
+    *lent = [strip, offset, length];
 }

@@ -4,22 +4,52 @@ use mathlib.Core.List.{List, [], _++_, _∷_}
 use mathlib.Core.Path.{_∙_, _≡_, ap, refl, sym}
 use Prim.Native.Nat.{_<_, suc, ℕ}
 use native.Mathlib.Omega.{arith}
-use lib.Dec.{eqb, lit<}
+use lib.Dec.{eqb, lit<, ltb}
 use borrow.Author.Tests.{eqb-false, eqb-true}
-use Rattle.calendar.specs.Refusal.{OneAnswer, VerdictsTold, _else_, _unless_, first, number}
+use Rattle.calendar.specs.Refusal.{OneAnswer, VerdictsTold, _else_, _unless_, first, number, strip-number}
 use Rattle.calendar.specs.declared.refusal.Refusal.{Refusal}
 use Rattle.calendar.specs.declared.refusal.Refusal.the-variants as Of
+use Rattle.calendar.specs.declared.refusal.StripRefusal.{StripRefusal}
+use Rattle.calendar.specs.declared.refusal.StripRefusal.the-variants as Strips
 use Rattle.calendar.specs.declared.refusal.Verdict.the-variants as Says
 
 -- what is told apart by its numbers is one answer
 pub one-answer : {A B : Type 0} {numbers : A → B} → ((x y : A) → numbers x ≡ numbers y → x ≡ y) → {answer : A} {rule : B} → numbers answer ≡ rule → OneAnswer numbers rule answer
 one-answer tells {answer} e = record { equal = e; only = λ other f. tells other answer (f ∙ sym e) }
 
+strip-numbered : ℕ → StripRefusal
+strip-numbered n =
+    cond (eqb n 20) Strips.Length (cond (eqb n 21) Strips.Version (cond (eqb n 22) Strips.AirOrBody (cond (eqb n 23) Strips.Date (cond (eqb n 24) Strips.Point
+    (cond (eqb n 25) Strips.Step (cond (eqb n 26) Strips.Azimuth (cond (eqb n 27) Strips.NotFound Strips.Buffer)))))))
+
+strip-above : (refusal : StripRefusal) → 19 < strip-number refusal
+strip-above Strips.Length = lit< tt
+strip-above Strips.Version = lit< tt
+strip-above Strips.AirOrBody = lit< tt
+strip-above Strips.Date = lit< tt
+strip-above Strips.Point = lit< tt
+strip-above Strips.Step = lit< tt
+strip-above Strips.Azimuth = lit< tt
+strip-above Strips.NotFound = lit< tt
+strip-above Strips.Buffer = lit< tt
+
 numbered : ℕ → Refusal
 numbered n =
     cond (eqb n 1) Of.Year (cond (eqb n 2) Of.Month (cond (eqb n 3) Of.Day (cond (eqb n 4) Of.Clock (cond (eqb n 5) Of.Ut1 (cond (eqb n 6) Of.DeltaT
     (cond (eqb n 7) Of.Longitude (cond (eqb n 8) Of.Latitude (cond (eqb n 9) Of.Height (cond (eqb n 10) Of.Pressure (cond (eqb n 11) Of.Temperature
-    (cond (eqb n 12) Of.ShortBuffer (cond (eqb n 14) Of.Opposite (cond (eqb n 15) Of.NotReduced Of.NotALine)))))))))))))
+    (cond (eqb n 12) Of.ShortBuffer (cond (eqb n 14) Of.Opposite (cond (eqb n 15) Of.NotReduced (cond (ltb 19 n) (Of.Strip (strip-numbered n)) Of.NotALine))))))))))))))
+
+read-strip : (refusal : StripRefusal) → numbered (strip-number refusal) ≡ Of.Strip refusal
+unfolding numbered strip-numbered
+read-strip Strips.Length = refl
+read-strip Strips.Version = refl
+read-strip Strips.AirOrBody = refl
+read-strip Strips.Date = refl
+read-strip Strips.Point = refl
+read-strip Strips.Step = refl
+read-strip Strips.Azimuth = refl
+read-strip Strips.NotFound = refl
+read-strip Strips.Buffer = refl
 
 read-back : (refusal : Refusal) → numbered (number refusal) ≡ refusal
 unfolding numbered
@@ -38,6 +68,7 @@ read-back Of.ShortBuffer = refl
 read-back Of.Opposite = refl
 read-back Of.NotReduced = refl
 read-back Of.NotALine = refl
+read-back (Of.Strip refusal) = read-strip refusal
 
 pub number-tells : (x y : Refusal) → number x ≡ number y → x ≡ y
 number-tells x y e = sym (read-back x) ∙ ap numbered e ∙ read-back y
@@ -58,6 +89,7 @@ number-above Of.ShortBuffer = lit< tt
 number-above Of.Opposite = lit< tt
 number-above Of.NotReduced = lit< tt
 number-above Of.NotALine = lit< tt
+number-above (Of.Strip refusal) = omega (arith, strip-above refusal)
 
 -- an answer that is not refused is no refusal
 pub never-none : (refusal : Refusal) → number refusal ≡ 0 → ⊥

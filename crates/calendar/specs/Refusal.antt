@@ -1,4 +1,4 @@
--- Numbered refusals (01, "A request and its numbered refusals"): 0 stands for none.
+-- Numbered refusals (01, "A request and its numbered refusals"; 02, Item 6): 0 stands for none.
 use mathlib.Core.Bool.{Bool, cond}
 use mathlib.Core.List.{List, [], _∷_}
 use mathlib.Core.Path.{_≡_}
@@ -6,8 +6,22 @@ use Prim.Native.Nat.{ℕ}
 use lib.Dec.{eqb}
 use Rattle.calendar.specs.declared.refusal.Refusal.{Refusal}
 use Rattle.calendar.specs.declared.refusal.Refusal.the-variants as Of
+use Rattle.calendar.specs.declared.refusal.StripRefusal.{StripRefusal}
+use Rattle.calendar.specs.declared.refusal.StripRefusal.the-variants as Strips
 use Rattle.calendar.specs.declared.refusal.Verdict.{Verdict}
 use Rattle.calendar.specs.declared.refusal.Verdict.the-variants as Says
+
+-- the refusals of a day strip
+abbrev pub strip-number : StripRefusal → ℕ
+strip-number Strips.Length = 20
+strip-number Strips.Version = 21
+strip-number Strips.AirOrBody = 22
+strip-number Strips.Date = 23
+strip-number Strips.Point = 24
+strip-number Strips.Step = 25
+strip-number Strips.Azimuth = 26
+strip-number Strips.NotFound = 27
+strip-number Strips.Buffer = 28
 
 -- the paper's number for each case; 13 carries an index, and is a case of the batch's answer
 abbrev pub number : Refusal → ℕ
@@ -26,6 +40,7 @@ number Of.ShortBuffer = 12
 number Of.Opposite = 14
 number Of.NotReduced = 15
 number Of.NotALine = 16
+number (Of.Strip refusal) = strip-number refusal
 
 abbrev pub verdict-number : Verdict → ℕ
 verdict-number Says.Passed = 0

@@ -1,6 +1,19 @@
-// 01's refusals, a case for each number, so that no other number can be given.
+// The papers' refusals, a case for each number, so that no other number can be given.
 ghost use mathlib.Core.Path.{_≡_};
-ghost use Rattle.calendar.specs.Refusal.{number, verdict-number, _unless_, _else_};
+ghost use Rattle.calendar.specs.Refusal.{number, strip-number, verdict-number, _unless_, _else_};
+
+// Of a day strip: 02's, from 20 on.
+pub enum StripRefusal {
+    Length,
+    Version,
+    AirOrBody,
+    Date,
+    Point,
+    Step,
+    Azimuth,
+    NotFound,
+    Buffer,
+}
 
 // 13 is not among them: it carries an index, and has a case of its own in a batch's answer.
 pub enum Refusal {
@@ -19,6 +32,7 @@ pub enum Refusal {
     Opposite,
     NotReduced,
     NotALine,
+    Strip(StripRefusal),
 }
 
 // What a check says.
@@ -27,7 +41,23 @@ pub enum Verdict {
     Refused(Refusal),
 }
 
-// 01's number.
+fn strip_number(refusal: StripRefusal) -> u32
+    ensures { λ r. ⌜ r ≡ strip-number refusal ⌝ }
+{
+    match refusal {
+        StripRefusal::Length => 20,
+        StripRefusal::Version => 21,
+        StripRefusal::AirOrBody => 22,
+        StripRefusal::Date => 23,
+        StripRefusal::Point => 24,
+        StripRefusal::Step => 25,
+        StripRefusal::Azimuth => 26,
+        StripRefusal::NotFound => 27,
+        StripRefusal::Buffer => 28,
+    }
+}
+
+// The paper's number.
 pub fn number_of(refusal: Refusal) -> u32
     ensures { λ r. ⌜ r ≡ number refusal ⌝ }
 {
@@ -47,6 +77,7 @@ pub fn number_of(refusal: Refusal) -> u32
         Refusal::Opposite => 14,
         Refusal::NotReduced => 15,
         Refusal::NotALine => 16,
+        Refusal::Strip(of_strip) => strip_number(of_strip),
     }
 }
 

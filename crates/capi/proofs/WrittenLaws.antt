@@ -1,6 +1,6 @@
 -- What every export promises, of the number that it gives and of what it leaves behind its reference: where it refuses, and where it answers.
 use mathlib.Core.Bool.{Bool, cond}
-use mathlib.Core.Path.{_∙_, _≡_, ap, sym}
+use mathlib.Core.Path.{_∙_, _≡_, ap, refl, sym}
 use Prim.Native.Nat.{ℕ}
 use lib.Dec.{eqb}
 use borrow.Author.Tests.{eq-eqb, ne-eqb}
@@ -8,7 +8,7 @@ use Rattle.calendar.specs.Refusal.{number}
 use Rattle.calendar.specs.declared.refusal.Refusal.{Refusal}
 use Rattle.calendar.proofs.RefusalLaws.{never-none}
 use Rattle.sky.specs.Answer.{Answer}
-use Rattle.capi.specs.Answers.{written, written-one}
+use Rattle.capi.specs.Answers.{formed, written, written-one}
 
 module _ {A : Type 0} (refusal : ℕ) (value before : A) where
   pub refused : {r : ℕ} → r ≡ refusal → (r ≡ 0 → ⊥) → (r ≡ refusal) × (before ≡ written-one refusal value before)
@@ -49,3 +49,33 @@ module _ {A : Type 0} (refusal : ℕ) (answer refusing : A) where
 
   pub known : {r : ℕ} {found : A} → r ≡ refusal → r ≡ 0 → found ≡ answer → found ≡ cond (eqb refusal 0) answer refusing
   known e none same = same ∙ sym (ap (λ (b : Bool). cond b answer refusing) (eq-eqb refusal 0 (sym e ∙ none)))
+
+-- a request by codes that fills a lent buffer, and tells how much of it
+module _ {A : Type 0} (refusal : ℕ) (answer : Answer ℕ) (filled before : A) (count-before : ℕ) where
+  abbrev asked : Answer ℕ
+  asked = formed refusal 0 answer
+
+  abbrev Counted : ℕ → A → ℕ → Type 0
+  Counted r left count = (r ≡ asked .refusal) × ((left ≡ written-one (asked .refusal) filled before) × (count ≡ written (λ n. n) asked count-before))
+
+  abbrev refusing : Answer ℕ
+  refusing = record { refusal = refusal; value = 0 }
+
+  pub count-unknown : {r : ℕ} → r ≡ refusal → (r ≡ 0 → ⊥) → Counted r before count-before
+  count-unknown e refuses =
+      let is = e ∙ ap (λ (a : Answer ℕ). a .refusal) (unknown refusal answer refusing e refuses) in
+      (is, (refused (asked .refusal) filled before is refuses .1, refused (asked .refusal) (asked .value) count-before is refuses .1))
+
+  module _ {r : ℕ} (e : r ≡ refusal) (none : r ≡ 0) {left : A} (kept : left ≡ written-one (answer .refusal) filled before) where
+    same : answer ≡ asked
+    same = known refusal answer refusing e none refl
+
+    left-is : left ≡ written-one (asked .refusal) filled before
+    left-is = kept ∙ ap (λ (a : Answer ℕ). written-one (a .refusal) filled before) same
+
+    pub count-seen : {n : ℕ} → record { refusal = 0; value = n } ≡ answer → Counted 0 left n
+    count-seen found = let told = seen (λ n. n) asked count-before (found ∙ same) refl in (told .0, (left-is, told .1))
+
+    pub count-refused-by : (by : Refusal) {given : ℕ} → given ≡ number by → number by ≡ answer .refusal → Counted given left count-before
+    count-refused-by by g is =
+        let told = refused-by (asked .refusal) (asked .value) count-before by g (is ∙ ap (λ (a : Answer ℕ). a .refusal) same) in (told .0, (left-is, told .1))

@@ -103,7 +103,7 @@ module _ (date : Date) (body : Body) (point : Point) where
 
   pub entry-is : (m : ℕ) → m < minutes → entry (curve date body point) m ≡ at m
   unfolding curve
-  entry-is m h = below-entry at minutes m h
+  entry-is m h = below-entry at (pos 0) minutes m h
 
   -- on which side the body is before minute 0; before the first day that of minute 0
   abbrev pub side-before : Bool

@@ -34,7 +34,7 @@ abbrev pub elevation-on : Date → Body → Point → ℤ → ℕ → ℤ
 elevation-on date body point d m = place-at body point (minute-of date d m) .elevation
 
 -- f of each number below n, in order
-unfoldable pub each-below : (ℕ → ℤ) → ℕ → List ℤ
+unfoldable pub each-below : {A : Type 0} → (ℕ → A) → ℕ → List A
 each-below f zero = []
 each-below f (suc n) = each-below f n ++ (f n ∷ [])
 

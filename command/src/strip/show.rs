@@ -1,0 +1,36 @@
+//! `raddlehue strip show`: what a strip says.
+
+use super::{file, forms};
+use crate::failure::Failure;
+use crate::format::{self, format_help, Format};
+use crate::sky;
+use crate::words::{Command, Words};
+
+pub const COMMAND: Command = Command {
+    name: "strip show",
+    summary: "what a day strip says, as a table",
+    positional: &["FILE"],
+    flags: &[format::FLAGS],
+    help: concat!(
+        "raddlehue strip show FILE [flags]
+
+What a day strip says: body, date, air, point and step, how many azimuths it has
+and how many are absent, and each of them with its time. A file that is no strip
+is refused, by the number and the sentence of the library.
+
+",
+        format_help!(),
+        "
+  raddlehue strip show m.strip
+"
+    ),
+    run,
+};
+
+fn run(words: &Words) -> Result<String, Failure> {
+    let format = Format::read(words)?;
+    let name = words.positional(0);
+    let bytes = file::read(name)?;
+    let strip = sky::strip(&bytes).map_err(|failure| failure.about(name))?;
+    Ok(forms::told(format, strip, None))
+}

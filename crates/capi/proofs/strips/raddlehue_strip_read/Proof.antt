@@ -1,0 +1,53 @@
+-- `capi::strips::raddlehue_strip_read` meets its contract.
+use mathlib.Core.Path.{_∙_, ap, sym}
+use borrow.Author.Needs.{needs}
+use Rattle.boundary.specs.Lent.{header-values}
+use Rattle.sky.specs.Answer.{Answer}
+use Rattle.strip.specs.Reading.{read, read-answer}
+use Rattle.strip.specs.declared.header.Header.{Header}
+use Rattle.capi.proofs.WrittenLaws.{refused-by, seen}
+use Rattle.capi.proofs.strips.raddlehue_strip_read.Statement.{statement}
+use Rattle.capi.proofs.strips.raddlehue_strip_read.Tie as tie
+
+read-requires : tie.Need-read-requires
+read-requires c κs = search needs
+
+enum-known-header : tie.Need-enum-known-header
+enum-known-header c = search needs
+
+put-header-requires : tie.Need-put-header-requires
+put-header-requires c κs = search needs
+
+enum-known-refused : tie.Need-enum-known-refused
+enum-known-refused c = search needs
+
+number-of-requires : tie.Need-number-of-requires
+number-of-requires c κs = search needs
+
+returns : tie.Need-returns
+returns c =
+    let found = c .before .before .before in
+    let k = found .before .before in
+    let s = k .before .before in
+    seen header-values (read (s .args .octets .now)) (s .args .strip .now) (sym (ap read-answer (found .header .given .1)) ∙ k .read .ensures .equal) (c .put-header .ensures)
+
+returns-2 : tie.Need-returns-2
+returns-2 c =
+    let by = c .before .before in
+    let k = by .before .before in
+    let s = k .before .before in
+    let asked = read (s .args .octets .now) in
+    refused-by (asked .refusal) (header-values (asked .value)) (s .args .strip .now) (by .refused .given .0 .0) (c .number-of .ensures)
+    (ap (λ (a : Answer Header). a .refusal) (sym (ap read-answer (by .refused .given .1)) ∙ k .read .ensures .equal))
+
+pub raddlehue-strip-read-spec : {M : Type 1} → statement M
+raddlehue-strip-read-spec =
+    tie.close
+    (tie.spec
+    read-requires
+    enum-known-header
+    put-header-requires
+    enum-known-refused
+    number-of-requires
+    returns
+    returns-2)

@@ -1,0 +1,14 @@
+-- `header::air_in` meets its contract.
+use mathlib.Core.Path.{refl}
+use borrow.Author.Tests.{eq-eqb, ne-eqb}
+use Rattle.strip.proofs.header.air_in.Statement.{statement}
+use Rattle.strip.proofs.header.air_in.Tie as tie
+
+returns : tie.Need-returns
+returns c = rw (eq-eqb (c .before .args .byte) 0 (c .if1 .taken)) refl
+
+returns-2 : tie.Need-returns-2
+returns-2 c = rw (ne-eqb (c .before .args .byte) 0 (c .if1 .left)) refl
+
+pub air-in-spec : {M : Type 1} → statement M
+air-in-spec = tie.close (tie.spec returns returns-2)

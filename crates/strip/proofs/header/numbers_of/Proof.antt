@@ -1,0 +1,98 @@
+-- `header::numbers_of` meets its contract.
+use mathlib.Core.List.{[], _∷_}
+use mathlib.Core.Path.{_∙_, _≡_, ap, subst⁻¹}
+use Prim.Native.Nat.{_*_, _+_}
+use lib.Dec.{lit<}
+use lib.IntN.{natAbs}
+use borrow.Author.Needs.{needs}
+use mir.Syntax.{w64}
+use mir.Val.{ofZ, toZ}
+use mir.ValLaws.{toZ-ofZ}
+use Rattle.octets.specs.Again.{InHalves}
+use Rattle.octets.specs.Octets.{complement}
+use Rattle.strip.specs.Format.{air-byte, body-byte, header-numbers}
+use Rattle.strip.proofs.CheckLaws.{Passes, header-passes}
+use Rattle.strip.proofs.HeaderLaws.{cast-natural, natural-same}
+use Rattle.strip.proofs.header.numbers_of.Statement.{statement}
+use Rattle.strip.proofs.header.numbers_of.Tie as tie
+
+module _ (s : tie.Start) where
+  good : Passes (air-byte (s .args .header .air)) (body-byte (s .args .header .body)) (s .args .header)
+  good = header-passes (air-byte (s .args .header .air)) (body-byte (s .args .header .body)) (s .args .header) (s .pre .0)
+
+  longitude-same : toZ w64 (ofZ w64 (s .args .header .longitude)) ≡ s .args .header .longitude
+  longitude-same = toZ-ofZ w64 (s .args .header .longitude) (search needs)
+
+  latitude-same : toZ w64 (ofZ w64 (s .args .header .latitude)) ≡ s .args .header .latitude
+  latitude-same = toZ-ofZ w64 (s .args .header .latitude) (search needs)
+
+sub-t5 : tie.Need-sub-t5
+sub-t5 c = search needs
+
+mul-t6 : tie.Need-mul-t6
+mul-t6 c = search needs
+
+add-t7 : tie.Need-add-t7
+add-t7 c = search needs
+
+cast-t8 : tie.Need-cast-t8
+cast-t8 c = search needs
+
+air-byte-requires : tie.Need-air-byte-requires
+air-byte-requires c κs = search needs
+
+body-byte-requires : tie.Need-body-byte-requires
+body-byte-requires c κs = search needs
+
+cast-t11 : tie.Need-cast-t11
+cast-t11 c = cast-natural (good (c .before .before .before .before) .year) (lit< tt)
+
+cast-t12 : tie.Need-cast-t12
+cast-t12 c = cast-natural (good (c .before .before .before .before .before .before) .month) (lit< tt)
+
+cast-t13 : tie.Need-cast-t13
+cast-t13 c = cast-natural (good (c .before .before .before .before .before .before .before .before) .day) (lit< tt)
+
+unsigned-requires : tie.Need-unsigned-requires
+unsigned-requires c κs = let s = c .before .before .before .before .before .before .before .before .before in subst⁻¹ (InHalves 4) (longitude-same s) (good s .longitude)
+
+unsigned-requires-2 : tie.Need-unsigned-requires-2
+unsigned-requires-2 c κs = let s = c .before .before .before .before .before .before .before .before .before .before .before in subst⁻¹ (InHalves 4) (latitude-same s) (good s .latitude)
+
+cast-t16 : tie.Need-cast-t16
+cast-t16 c = cast-natural (good (c .before .before .before .before .before .before .before .before .before .before .before .before .before .before) .step) (lit< tt)
+
+returns : tie.Need-returns
+unfolding header-numbers
+returns c =
+    let s = c .before .before .before .before .before .before .before .before .before .before .before .before .before .before in
+    λ i.
+    (16 + 4 * s .args .count)
+    ∷ 1
+    ∷ c .before .before .before .before .before .before .before .before .before .before .before .before .before .air-byte .ensures i
+    ∷ c .before .before .before .before .before .before .before .before .before .before .before .before .body-byte .ensures i
+    ∷ natAbs (natural-same (good s .year) (lit< tt) i)
+    ∷ natAbs (natural-same (good s .month) (lit< tt) i)
+    ∷ natAbs (natural-same (good s .day) (lit< tt) i)
+    ∷ (c .before .before .before .before .unsigned .ensures ∙ ap (complement 4) (longitude-same s)) i
+    ∷ (c .before .before .unsigned2 .ensures ∙ ap (complement 4) (latitude-same s)) i
+    ∷ natAbs (natural-same (good s .step) (lit< tt) i)
+    ∷ []
+
+pub numbers-of-spec : {M : Type 1} → statement M
+numbers-of-spec =
+    tie.close
+    (tie.spec
+    sub-t5
+    mul-t6
+    add-t7
+    cast-t8
+    air-byte-requires
+    body-byte-requires
+    cast-t11
+    cast-t12
+    cast-t13
+    unsigned-requires
+    unsigned-requires-2
+    cast-t16
+    returns)
