@@ -3,7 +3,7 @@ use mathlib.Core.Bool.{_&&_, false, true}
 use mathlib.Core.List.{List, [], _++_, _∷_, append-assoc, append-nil}
 use mathlib.Core.Path.{_∙_, _≡_, ap, ap₂, refl, subst, sym}
 use Prim.Native.Nat.{_*_, _+_, _<_, _^_, _≤_, suc, zero, ℕ}
-use native.Mathlib.Nat.{not-suc-le-zero}
+use native.Mathlib.Nat.{mul-zero, not-suc-le-zero}
 use native.Mathlib.Numerals.{add-one}
 use native.Mathlib.Omega.{arith}
 use lib.Dec.{T, leb, ltb}
@@ -162,10 +162,7 @@ parted-next (width ∷ widths) octets (suc i) h =
 pub parted-alike : (count width i : ℕ) (octets : List ℕ) → i < count → getD (parted (replicate count width) octets) i 0 ≡ number (take width (drop (width * i) octets))
 unfolding parted
 parted-alike zero width i octets h = absurd (not-suc-le-zero h)
-parted-alike (suc count) width zero octets h = ap (λ (n : ℕ). number (take width (drop n octets))) (none width)
-  where
-    none : (w : ℕ) → 0 ≡ w * 0
-    none w = omega arith
+parted-alike (suc count) width zero octets h = ap (λ (n : ℕ). number (take width (drop n octets))) (sym (mul-zero width))
 parted-alike (suc count) width (suc i) octets h =
     parted-alike count width i (drop width octets) (omega arith)
     ∙ ap (λ (t : List ℕ). number (take width t)) (drop-drop (width * i) width octets ∙ ap (λ (n : ℕ). drop n octets) (next width i))

@@ -2,7 +2,7 @@
 use mathlib.Core.List.{List, [], _++_, _∷_}
 use mathlib.Core.Path.{_∙_, _≡_, ap, refl, sym}
 use Prim.Native.Nat.{_+_, _<_, _≤_, suc, ℕ}
-use native.Mathlib.Nat.{add-suc, add-zero, suc-add}
+use native.Mathlib.Nat.{add-suc, add-zero, suc-add, zero-add}
 use native.Mathlib.Omega.{arith}
 use lib.ListN.{drop, length, length-append, set}
 use lib.Seq.{length-sets, set-comm, sets, sets-eq}
@@ -41,6 +41,3 @@ module _ {before after added : List ℕ} {at next : ℕ} (p : Put before at adde
   pub put-whole : at ≡ 0 → length added ≤ length before → after ≡ added ++ drop (length added) before
   put-whole z h =
       p .stored ∙ ap (λ (n : ℕ). sets before n added) z ∙ sets-eq added before 0 (omega arith) ∙ ap (λ (n : ℕ). added ++ drop n before) (zero-add (length added))
-    where
-      zero-add : (n : ℕ) → 0 + n ≡ n
-      zero-add n = omega arith

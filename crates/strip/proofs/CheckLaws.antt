@@ -6,7 +6,7 @@ use mathlib.Core.Path.{_∙_, _≡_, ap, refl, subst, sym}
 use Prim.Native.Nat.{_<_, _≤_, ℕ}
 use native.Mathlib.Nat.{div-le-self, le-refl}
 use native.Mathlib.Omega.{arith}
-use lib.Dec.{T, eqb, leb, lit≤, ltb}
+use lib.Dec.{eqb, leb, lit≤, ltb}
 use lib.IntN.{natAbs, negsuc, pos, ℤ}
 use lib.ListN.{drop}
 use lib.Signed.{leZ}
@@ -21,6 +21,7 @@ use Rattle.number_rules.proofs.CalendarLaws.{length-most}
 use Rattle.number_rules.specs.Calendar.{DayAnswer, day-count, days-from-2000, month-length}
 use Rattle.numbers.proofs.Machine.{same-bits}
 use Rattle.numbers.specs.Whole.{between}
+use Rattle.octets.proofs.FieldLaws.{off}
 use Rattle.octets.specs.Again.{InHalves}
 use Rattle.request.proofs.RequestLaws.{between-size}
 use Rattle.sky_vectors.specs.SkyRange.{latitude-limit, longitude-limit}
@@ -28,9 +29,6 @@ use Rattle.sum_rules.specs.Instant.{minus}
 use Rattle.text.proofs.LineLaws.{first-of, second-of}
 use Rattle.strip.specs.Checks.{SameTells, absent, full-turn, header-refusals, is-azimuth, is-date, is-point, is-step, same, steps}
 use Rattle.strip.specs.declared.header.Header.{Header}
-
-off : false ≡ true → ⊥
-off q = subst T (sym q) tt
 
 pub either : (a b : Bool) → (a || b) ≡ true → (a ≡ true) ⊎ (b ≡ true)
 either true b e = inl refl

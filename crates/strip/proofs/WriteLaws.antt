@@ -3,6 +3,7 @@ use mathlib.Core.Bool.{true}
 use mathlib.Core.List.{List, [], _++_, _∷_}
 use mathlib.Core.Path.{_∙_, _≡_, ap, ap₂, refl, sym}
 use Prim.Native.Nat.{_*_, _+_, _≤_, ℕ}
+use native.Mathlib.Nat.{zero-add}
 use native.Mathlib.Omega.{arith}
 use lib.Dec.{eqb, leb}
 use lib.ListN.{length, length-append, length-replicate}
@@ -116,9 +117,6 @@ module _ (strip : Strip) where
         let size : length (head ++ tail) ≡ strip-size count = encode-length in
         let whole = put-whole (put-twice p q) refl (omega (arith, size, has-room strip (length before) e)) in
         (put-twice p q .behind ∙ zero-add (length (head ++ tail)) ∙ size, whole ∙ sym (simp (refusal-is ∙ e)))
-      where
-        zero-add : (n : ℕ) → 0 + n ≡ n
-        zero-add n = omega arith
 
     pub nothing-written : {n : ℕ} → first (write-refusals strip (length before)) ≡ n → (n ≡ 0 → ⊥) → before ≡ left-in strip before
     nothing-written {n} is refuses = sym (simp (ne-eqb (write strip (length before) .refusal) 0 (λ e. refuses (sym is ∙ (sym refusal-is ∙ e)))))
