@@ -331,7 +331,7 @@ impl<'a> Strip<'a> {
         self.bytes
     }
 
-    /// Its azimuths, 4 bytes each, the largest first: what [`strip_azimuth`] takes.
+    /// Its azimuths, 4 bytes each, the highest byte first: what [`strip_azimuth`] takes.
     #[must_use]
     pub fn azimuth_bytes(&self) -> &'a [u8] {
         // No strip is shorter than its header.
