@@ -144,7 +144,10 @@ module _ (widths numbers : List ℕ) (i : ℕ) (h : i < length widths) (l : leng
       → Put before at (joined (take (i + 1) widths) (take (i + 1) numbers)) after last
   put-field {after} {last} q =
       subst (λ (s : List ℕ). Put before at s after last)
-      (ap (λ (w : ℕ). joined (take i widths) (take i numbers) ++ big-endian w (getD numbers i 0)) (sym is) ∙ joined-next widths numbers i h (omega arith) ∙ ap (λ (n : ℕ). joined (take n widths) (take n numbers)) (sym (add-one i))) (put-twice p q)
+      (ap (λ (w : ℕ). joined (take i widths) (take i numbers) ++ big-endian w (getD numbers i 0)) (sym is)
+      ∙ joined-next widths numbers i h (omega arith)
+      ∙ ap (λ (n : ℕ). joined (take n widths) (take n numbers)) (sym (add-one i)))
+      (put-twice p q)
 
 -- ---- a loop that reads
 

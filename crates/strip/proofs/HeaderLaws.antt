@@ -10,10 +10,22 @@ use borrow.Author.Tests.{le-ltb, lt-ltb}
 use mir.Syntax.{w32, w64}
 use mir.Val.{Fits, SFits, ofZ, toZ}
 use mir.ValLaws.{toZ-ofZ}
+use Rattle.numbers.proofs.Machine.{from-nat, nat-fits}
 use Rattle.arithmetic.proofs.Difference.{#_, _⊞_, _⊟ℤ_, by-eq, by-le, ⟨_⟩}
 use Rattle.octets.specs.Again.{InHalves}
 use Rattle.octets.specs.Octets.{complement, from-complement}
 use Rattle.strip.proofs.CheckLaws.{Natural}
+
+-- a number of 32 bits, cast to 64
+module _ {n : ℕ} (small : Fits w32 n) where
+  within : n ≤ 4_294_967_295
+  within = omega (arith, small .fits)
+
+  pub cast-wide : SFits w64 (pos n)
+  cast-wide = nat-fits within tt
+
+  pub wide-same : toZ w64 n ≡ pos n
+  wide-same = from-nat within tt .same
 
 -- a number that is known to be natural, cast to 32 bits
 pub to-narrow : {z : ℤ} {n : ℕ} → z ≡ pos n → n < 2 ^ 32 → T (nonNeg z) × Fits w32 (natAbs z)

@@ -88,7 +88,8 @@ returns-2 : tie.Need-returns-2
 returns-2 c =
     let found = c .before in
     let k = found .before .before .before .before in
-    count-seen (refusal-of (s k)) (ruled (s k)) (filled (s k)) (s k .args .azimuths .now) (s k .args .count .now) (e k .before .body-refusal .ensures) (e k .if1 .left) (kept k) (sym (ap azimuths-answer (found .steps .given .1)) ∙ answer k)
+    count-seen (refusal-of (s k)) (ruled (s k)) (filled (s k)) (s k .args .azimuths .now) (s k .args .count .now) (e k .before .body-refusal .ensures) (e k .if1 .left) (kept k)
+    (sym (ap azimuths-answer (found .steps .given .1)) ∙ answer k)
 
 same-length-2 : tie.Need-same-length-2
 same-length-2 c = search needs

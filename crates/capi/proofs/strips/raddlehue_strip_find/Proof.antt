@@ -67,13 +67,15 @@ returns : tie.Need-returns
 returns c =
     let told = c .before .before in
     let k = told .before .before in
-    seen (part-values (one k) (two k)) (asked k) (s k .args .part .now) (answer k (told .enum-told .given .1)) (c .put-part .ensures ∙ ap (λ (n : ℕ). 1 ∷ header-size ∷ n ∷ []) (sym (length-drop header-size (one k))))
+    seen (part-values (one k) (two k)) (asked k) (s k .args .part .now) (answer k (told .enum-told .given .1))
+    (c .put-part .ensures ∙ ap (λ (n : ℕ). 1 ∷ header-size ∷ n ∷ []) (sym (length-drop header-size (one k))))
 
 returns-2 : tie.Need-returns-2
 returns-2 c =
     let told = c .before .before in
     let k = told .before .before in
-    seen (part-values (one k) (two k)) (asked k) (s k .args .part .now) (answer k (told .enum-told2 .given .1)) (c .put-part2 .ensures ∙ ap (λ (n : ℕ). 2 ∷ header-size ∷ n ∷ []) (sym (length-drop header-size (two k))))
+    seen (part-values (one k) (two k)) (asked k) (s k .args .part .now) (answer k (told .enum-told2 .given .1))
+    (c .put-part2 .ensures ∙ ap (λ (n : ℕ). 2 ∷ header-size ∷ n ∷ []) (sym (length-drop header-size (two k))))
 
 returns-3 : tie.Need-returns-3
 returns-3 c =

@@ -1,9 +1,9 @@
 -- `fields::put_alike` meets its contract. The invariant: the fields so far are stored.
 use mathlib.Core.List.{List}
 use mathlib.Core.Path.{_≡_, subst, sym}
-use Prim.Native.Nat.{_-_, _≤_, ℕ}
+use Prim.Native.Nat.{_-_, _<_, _≤_, ℕ}
 use native.Mathlib.Omega.{arith}
-use lib.ListN.{getD-replicate, length, length-replicate, take}
+use lib.ListN.{getD, getD-replicate, length, length-replicate, take}
 use lib.Seq.{take-all}
 use borrow.Author.Needs.{needs}
 use Rattle.octets.specs.Octets.{alike, joined}
@@ -26,6 +26,20 @@ module _ (s : tie.Start Inv-loop μ-loop) where
   count : length (s .args .numbers .now) ≡ length widths
   count = sym (length-replicate {A = ℕ} (length (s .args .numbers .now)) (s .args .width))
 
+-- a turn: its field, and the width of it
+module _ (c : tie.In-loop Inv-loop μ-loop) where
+  abbrev s : tie.Start Inv-loop μ-loop
+  s = c .before .before .before .before
+
+  abbrev field : ℕ
+  field = c .before .loop .field
+
+  within : field < length (widths s)
+  within = omega (arith, count s, c .loop-test .taken)
+
+  width-is : getD (widths s) field 0 ≡ s .args .width
+  width-is = getD-replicate (length (s .args .numbers .now)) field (s .args .width) 0 (c .loop-test .taken)
+
 loop-holds : tie.Need-loop-holds Inv-loop μ-loop
 unfolding joined
 loop-holds c = let a = c .before .before .args in (omega arith, put-none (a .out .now) (a .at))
@@ -38,9 +52,10 @@ shared-slice-read-put-number c = search needs
 
 put-number-requires : tie.Need-put-number-requires Inv-loop μ-loop
 put-number-requires c κs =
-    let l = c .before .before .before in
-    let s = l .before .before .before in
-    field-room (widths s) (s .args .numbers .now) (l .loop .field) (omega (arith, count s, c .before .before .loop-test .taken)) (count s) (s .args .width) (getD-replicate (length (s .args .numbers .now)) (l .loop .field) (s .args .width) 0 (c .before .before .loop-test .taken)) (l .loop .inv .1) (omega (arith, s .pre, total-alike (length (s .args .numbers .now)) (s .args .width)))
+    let k = c .before .before in
+    let a = s k .args in
+    field-room (widths (s k)) (a .numbers .now) (field k) (within k) (count (s k)) (a .width) (width-is k) (k .before .loop .inv .1)
+    (omega (arith, s k .pre, total-alike (length (a .numbers .now)) (a .width)))
 
 add-field : tie.Need-add-field Inv-loop μ-loop
 add-field c = search needs
@@ -50,10 +65,10 @@ loop-less c = search needs
 
 loop-again : tie.Need-loop-again Inv-loop μ-loop
 loop-again c =
-    let l = c .before .before .before .before .before .before in
-    let s = l .before .before .before in (
-      omega (arith, c .before .before .before .before .before .loop-test .taken),
-      put-field (widths s) (s .args .numbers .now) (l .loop .field) (omega (arith, count s, c .before .before .before .before .before .loop-test .taken)) (count s) (s .args .width) (getD-replicate (length (s .args .numbers .now)) (l .loop .field) (s .args .width) 0 (c .before .before .before .before .before .loop-test .taken)) (l .loop .inv .1) (c .before .before .put-number .ensures),
+    let k = c .before .before .before .before .before in
+    let a = s k .args in (
+      omega (arith, k .loop-test .taken),
+      put-field (widths (s k)) (a .numbers .now) (field k) (within k) (count (s k)) (a .width) (width-is k) (k .before .loop .inv .1) (c .before .before .put-number .ensures),
     )
 
 same-length : tie.Need-same-length Inv-loop μ-loop

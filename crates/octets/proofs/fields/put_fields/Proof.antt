@@ -1,7 +1,7 @@
 -- `fields::put_fields` meets its contract. The invariant: the fields so far are stored.
 use mathlib.Core.List.{List}
 use mathlib.Core.Path.{refl, subst}
-use Prim.Native.Nat.{_-_, _≤_, ℕ}
+use Prim.Native.Nat.{_-_, _<_, _≤_, ℕ}
 use native.Mathlib.Omega.{arith}
 use lib.ListN.{length, take}
 use lib.Seq.{take-all}
@@ -18,6 +18,17 @@ Inv-loop out₀ at widths numbers next₀ field₀ out next field = (field ≤ l
 
 abbrev μ-loop : tie.MeasureT-loop
 μ-loop out₀ at widths numbers next₀ field₀ out next field = length numbers - field
+
+-- a turn: its field
+module _ (c : tie.In-loop Inv-loop μ-loop) where
+  abbrev s : tie.Start Inv-loop μ-loop
+  s = c .before .before .before .before .before
+
+  abbrev field : ℕ
+  field = c .before .loop .field
+
+  within : field < length (s .args .widths .now)
+  within = omega (arith, s .pre .1, c .loop-test .taken)
 
 loop-holds : tie.Need-loop-holds Inv-loop μ-loop
 unfolding joined
@@ -37,9 +48,9 @@ shared-slice-read-put-number-2 c = search needs
 
 put-number-requires : tie.Need-put-number-requires Inv-loop μ-loop
 put-number-requires c κs =
-    let l = c .before .before .before .before in
-    let s = l .before .before .before .before in
-    field-room (s .args .widths .now) (s .args .numbers .now) (l .loop .field) (omega (arith, s .pre .1, c .before .before .before .loop-test .taken)) (s .pre .1) _ refl (l .loop .inv .1) (s .pre .0)
+    let k = c .before .before .before in
+    let a = s k .args in
+    field-room (a .widths .now) (a .numbers .now) (field k) (within k) (s k .pre .1) _ refl (k .before .loop .inv .1) (s k .pre .0)
 
 add-field : tie.Need-add-field Inv-loop μ-loop
 add-field c = search needs
@@ -49,10 +60,10 @@ loop-less c = search needs
 
 loop-again : tie.Need-loop-again Inv-loop μ-loop
 loop-again c =
-    let l = c .before .before .before .before .before .before .before in
-    let s = l .before .before .before .before in (
-      omega (arith, c .before .before .before .before .before .before .loop-test .taken),
-      put-field (s .args .widths .now) (s .args .numbers .now) (l .loop .field) (omega (arith, c .before .before .before .before .before .before .loop-test .taken)) (s .pre .1) _ refl (l .loop .inv .1) (c .before .before .put-number .ensures),
+    let k = c .before .before .before .before .before .before in
+    let a = s k .args in (
+      omega (arith, s k .pre .1, within k),
+      put-field (a .widths .now) (a .numbers .now) (field k) (within k) (s k .pre .1) _ refl (k .before .loop .inv .1) (c .before .before .put-number .ensures),
     )
 
 same-length : tie.Need-same-length Inv-loop μ-loop

@@ -26,6 +26,13 @@ module _ (s : tie.Start) where
   latitude-same : toZ w64 (ofZ w64 (s .args .header .latitude)) ≡ s .args .header .latitude
   latitude-same = toZ-ofZ w64 (s .args .header .latitude) (search needs)
 
+-- the start, seen from where the octets of air and body are known, and from where the longitude's are
+abbrev from-body : tie.After-body-byte → tie.Start
+from-body c = c .before .before
+
+abbrev from-longitude : tie.After-unsigned → tie.Start
+from-longitude c = from-body (c .before .before .before .before .before .before .before .before)
+
 sub-t5 : tie.Need-sub-t5
 sub-t5 c = search needs
 
@@ -45,37 +52,40 @@ body-byte-requires : tie.Need-body-byte-requires
 body-byte-requires c κs = search needs
 
 cast-t11 : tie.Need-cast-t11
-cast-t11 c = cast-natural (good (c .before .before .before .before) .year) (lit< tt)
+cast-t11 c = cast-natural (good (from-body (c .before .before)) .year) (lit< tt)
 
 cast-t12 : tie.Need-cast-t12
-cast-t12 c = cast-natural (good (c .before .before .before .before .before .before) .month) (lit< tt)
+cast-t12 c = cast-natural (good (from-body (c .before .before .before .before)) .month) (lit< tt)
 
 cast-t13 : tie.Need-cast-t13
-cast-t13 c = cast-natural (good (c .before .before .before .before .before .before .before .before) .day) (lit< tt)
+cast-t13 c = cast-natural (good (from-body (c .before .before .before .before .before .before)) .day) (lit< tt)
 
 unsigned-requires : tie.Need-unsigned-requires
-unsigned-requires c κs = let s = c .before .before .before .before .before .before .before .before .before in subst⁻¹ (InHalves 4) (longitude-same s) (good s .longitude)
+unsigned-requires c κs = let s = from-body (c .before .before .before .before .before .before .before) in subst⁻¹ (InHalves 4) (longitude-same s) (good s .longitude)
 
 unsigned-requires-2 : tie.Need-unsigned-requires-2
-unsigned-requires-2 c κs = let s = c .before .before .before .before .before .before .before .before .before .before .before in subst⁻¹ (InHalves 4) (latitude-same s) (good s .latitude)
+unsigned-requires-2 c κs = let s = from-longitude (c .before) in subst⁻¹ (InHalves 4) (latitude-same s) (good s .latitude)
 
 cast-t16 : tie.Need-cast-t16
-cast-t16 c = cast-natural (good (c .before .before .before .before .before .before .before .before .before .before .before .before .before .before) .step) (lit< tt)
+cast-t16 c = cast-natural (good (from-longitude (c .before .before .before .before)) .step) (lit< tt)
 
 returns : tie.Need-returns
 unfolding header-numbers
 returns c =
-    let s = c .before .before .before .before .before .before .before .before .before .before .before .before .before .before in
+    let latitude = c .before .before in
+    let longitude = latitude .before .before in
+    let body = longitude .before .before .before .before .before .before .before .before in
+    let s = from-body body in
     λ i.
     (16 + 4 * s .args .count)
     ∷ 1
-    ∷ c .before .before .before .before .before .before .before .before .before .before .before .before .before .air-byte .ensures i
-    ∷ c .before .before .before .before .before .before .before .before .before .before .before .before .body-byte .ensures i
+    ∷ body .before .air-byte .ensures i
+    ∷ body .body-byte .ensures i
     ∷ natAbs (natural-same (good s .year) (lit< tt) i)
     ∷ natAbs (natural-same (good s .month) (lit< tt) i)
     ∷ natAbs (natural-same (good s .day) (lit< tt) i)
-    ∷ (c .before .before .before .before .unsigned .ensures ∙ ap (complement 4) (longitude-same s)) i
-    ∷ (c .before .before .unsigned2 .ensures ∙ ap (complement 4) (latitude-same s)) i
+    ∷ (longitude .unsigned .ensures ∙ ap (complement 4) (longitude-same s)) i
+    ∷ (latitude .unsigned2 .ensures ∙ ap (complement 4) (latitude-same s)) i
     ∷ natAbs (natural-same (good s .step) (lit< tt) i)
     ∷ []
 
