@@ -33,7 +33,8 @@ strip-above Strips.Azimuth = lit< tt
 strip-above Strips.NotFound = lit< tt
 strip-above Strips.Buffer = lit< tt
 
-numbered : ℕ → Refusal
+-- the refusal that has a number
+pub numbered : ℕ → Refusal
 numbered n =
     cond (eqb n 1) Of.Year (cond (eqb n 2) Of.Month (cond (eqb n 3) Of.Day (cond (eqb n 4) Of.Clock (cond (eqb n 5) Of.Ut1 (cond (eqb n 6) Of.DeltaT
     (cond (eqb n 7) Of.Longitude (cond (eqb n 8) Of.Latitude (cond (eqb n 9) Of.Height (cond (eqb n 10) Of.Pressure (cond (eqb n 11) Of.Temperature
@@ -51,7 +52,7 @@ read-strip Strips.Azimuth = refl
 read-strip Strips.NotFound = refl
 read-strip Strips.Buffer = refl
 
-read-back : (refusal : Refusal) → numbered (number refusal) ≡ refusal
+pub read-back : (refusal : Refusal) → numbered (number refusal) ≡ refusal
 unfolding numbered
 read-back Of.Year = refl
 read-back Of.Month = refl

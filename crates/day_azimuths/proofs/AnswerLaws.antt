@@ -1,19 +1,19 @@
 -- The answer: one and no other, what its checks say where they pass, what is left in the buffer, and demand 3.
 use mathlib.Core.Bool.{true}
 use mathlib.Core.List.{List, [], _++_, _∷_}
-use mathlib.Core.Path.{_∙_, _≡_, ap, sym}
+use mathlib.Core.Path.{_∙_, _≡_, refl, sym}
 use Prim.Native.Nat.{_*_, _≤_, ℕ}
 use lib.Dec.{leb}
 use lib.IntN.{natAbs, ℤ}
 use lib.ListN.{drop, length}
 use borrow.Author.Tests.{leb-true, ne-eqb}
-use Rattle.calendar.proofs.RefusalLaws.{never-none, none, none-append, number-tells, one-answer, passes}
+use Rattle.calendar.proofs.RefusalLaws.{none, none-append, passes}
 use Rattle.calendar.specs.Refusal.{OneAnswer, _unless_, first}
 use Rattle.day.proofs.DateLaws.{accepted-day, minute-reachable}
 use Rattle.day.specs.Curve.{minute-of}
 use Rattle.day.specs.Date.{day-refusals, days}
 use Rattle.day.specs.declared.date.Date.{Date}
-use Rattle.sky.proofs.AnswerLaws.{judged-refusal}
+use Rattle.sky.proofs.AnswerLaws.{from-answer, judged-refusal, one-from, refused-back}
 use Rattle.sky.specs.Answer.{Answer}
 use Rattle.sky_vectors.specs.declared.geocentric.Body.{Body}
 use Rattle.sky_vectors.specs.declared.station.Point.{Point}
@@ -27,14 +27,12 @@ use Rattle.day_azimuths.specs.declared.answer.DayAzimuths.the-variants.{
 use Rattle.day_azimuths.proofs.StepLaws.{all-in-day, in-day}
 
 -- ---- one answer and no other
-azimuths-tell : (x y : DayAzimuths) → azimuths-answer x ≡ azimuths-answer y → x ≡ y
-azimuths-tell (Worked m) (Worked n) same = ap (λ (a : Answer ℕ). Worked (a .value)) same
-azimuths-tell (Worked m) (Refused r) same = absurd (never-none r (sym (ap (λ (a : Answer ℕ). a .refusal) same)))
-azimuths-tell (Refused r) (Worked n) same = absurd (never-none r (ap (λ (a : Answer ℕ). a .refusal) same))
-azimuths-tell (Refused r) (Refused s) same = ap Refused (number-tells r s (ap (λ (a : Answer ℕ). a .refusal) same))
+azimuths-back : (x : DayAzimuths) → from-answer Worked Refused (azimuths-answer x) ≡ x
+azimuths-back (Worked count) = refl
+azimuths-back (Refused r) = refused-back Worked Refused 0 r
 
 pub one-answered : {found : DayAzimuths} {rule : Answer ℕ} → azimuths-answer found ≡ rule → OneAnswer azimuths-answer rule found
-one-answered = one-answer azimuths-tell
+one-answered = one-from Worked Refused azimuths-back
 
 -- ---- checks that pass
 module _ (date : Date) (point : Point) (step : ℤ) (room : ℕ) where

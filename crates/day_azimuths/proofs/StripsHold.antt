@@ -34,13 +34,16 @@ use Rattle.sum_rules.specs.Instant.{minus}
 use Rattle.text.proofs.WordLaws.{all-append}
 use Rattle.text.specs.Line.{all}
 use Rattle.day_azimuths.specs.Answer.{azimuths-refusals}
-use Rattle.day_azimuths.specs.Azimuths.{azimuth-on, strip-azimuth, worked}
+use Rattle.day_azimuths.specs.Azimuths.{SameTurn, azimuth-on, coarser, strip-azimuth, worked}
 use Rattle.day_azimuths.specs.Strips.{EveryDayWritable, day-strip}
 use Rattle.day_azimuths.proofs.AnswerLaws.{day-passes, refusal-is, step-passes}
 
 -- ---- azimuths
+pub same-turn : SameTurn
+same-turn = refl
+
 floored : (d : Direction) → Reduced d → is-azimuth (strip-azimuth d) ≡ true
-floored (Towards angle) h = simp (lt-ltb (angle .units / 10) full-turn (omega arith))
+floored (Towards angle) h = simp (lt-ltb (angle .units / coarser) full-turn (omega arith))
 floored None h = refl
 
 module _ (f : ℕ → ℕ) (good : (i : ℕ) → is-azimuth (f i) ≡ true) where

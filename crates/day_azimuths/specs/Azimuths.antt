@@ -1,5 +1,6 @@
 -- A day's azimuths (02, Item 6: "one four-byte azimuth per step from minute 0, floored to 10⁻⁷ degree before the strip is made, 4,294,967,295 where absent").
 use mathlib.Core.List.{List}
+use mathlib.Core.Path.{_≡_}
 use Prim.Native.Nat.{_*_, _/_, ℕ}
 use lib.IntN.{natAbs, ℤ}
 use Rattle.arctangent.specs.declared.direction.Direction.{Direction}
@@ -7,15 +8,20 @@ use Rattle.arctangent.specs.declared.direction.Direction.the-variants.{None, To
 use Rattle.day.specs.Curve.{each-below, minute-of}
 use Rattle.day.specs.Date.{days}
 use Rattle.day.specs.declared.date.Date.{Date}
+use Rattle.number_rules.specs.Angle as Angle
 use Rattle.sky_vectors.specs.Place.{place-at, place-from}
 use Rattle.sky_vectors.specs.declared.geocentric.Body.{Body}
 use Rattle.sky_vectors.specs.declared.station.Point.{Point}
 use Rattle.sky_vectors.specs.declared.station.Runner.{Runner}
-use Rattle.strip.specs.Checks.{absent, steps}
+use Rattle.strip.specs.Checks.{absent, full-turn, steps}
 
 -- units of an angle, 10⁻⁸ degree, to one of a strip's, 10⁻⁷
 abbrev pub coarser : ℕ
 coarser = 10
+
+-- the full turn of a strip is 01's
+abbrev pub SameTurn : Type 0
+SameTurn = full-turn * coarser ≡ Angle.full-turn
 
 -- a direction as a strip has it
 abbrev pub strip-azimuth : Direction → ℕ

@@ -4,8 +4,9 @@ use mathlib.Core.Path.{_∙_, _≡_, ap, refl, subst⁻¹, sym}
 use Prim.Native.Nat.{ℕ}
 use lib.Dec.{eqb}
 use borrow.Author.Tests.{eq-eqb, eqb-true, ne-eqb}
-use Rattle.calendar.specs.Refusal.{OneAnswer, first}
-use Rattle.calendar.proofs.RefusalLaws.{never-none, number-tells, one-answer}
+use Rattle.calendar.specs.Refusal.{OneAnswer, first, number}
+use Rattle.calendar.specs.declared.refusal.Refusal.{Refusal}
+use Rattle.calendar.proofs.RefusalLaws.{never-none, number-tells, numbered, one-answer, read-back}
 use Rattle.refraction.specs.declared.air.Air.{Air}
 use Rattle.request.specs.Request.{instant}
 use Rattle.request.specs.declared.start.Start.{Start}
@@ -16,6 +17,7 @@ use Rattle.sky_vectors.specs.declared.place.Place.{Place}
 use Rattle.sky_vectors.specs.declared.station.Point.{Point}
 use Rattle.arctangent.proofs.ArctangentLaws.{direction-tells}
 use Rattle.sky.specs.Answer.{Answer, PlaceNumbers, judged, nowhere, place, place-answer, place-numbers, request-refusals, shown-answer}
+use Rattle.sky.specs.Shown.{nothing-shown}
 use Rattle.sky.specs.declared.answer.PlaceAnswer.{PlaceAnswer}
 use Rattle.sky.specs.declared.answer.PlaceAnswer.the-variants as Places
 use Rattle.sky.specs.declared.answer.ShownAnswer.{ShownAnswer}
@@ -43,6 +45,17 @@ module _ {A : Type 0} (refusal : ℕ) (zeros value : A) where
   not-refused e =
       let none : refusal ≡ 0 = sym (judged-refusal refusal zeros value) ∙ sym (ap (λ (a : Answer A). a .refusal) e) in
       (none, ap (λ (a : Answer A). a .value) (e ∙ judged-value refusal zeros value none))
+
+-- an enum that is a value or a refusal, from its answer: what comes back from it is told apart by it
+module _ {E A : Type 0} (given : A → E) (refused : Refusal → E) where
+  abbrev pub from-answer : Answer A → E
+  from-answer a = cond (eqb (a .refusal) 0) (given (a .value)) (refused (numbered (a .refusal)))
+
+  pub refused-back : (zeros : A) (r : Refusal) → from-answer (record { refusal = number r; value = zeros }) ≡ refused r
+  refused-back zeros r = rw (ne-eqb (number r) 0 (never-none r)) (ap refused (read-back r))
+
+  pub one-from : {answer : E → Answer A} → ((x : E) → from-answer (answer x) ≡ x) → {found : E} {rule : Answer A} → answer found ≡ rule → OneAnswer answer rule found
+  one-from back = one-answer (λ x y same. sym (back x) ∙ ap from-answer same ∙ back y)
 
 pub numbers-tell : (p q : Place) → place-numbers p ≡ place-numbers q → p ≡ q
 numbers-tell p q same =
@@ -74,11 +87,9 @@ module _ (start : Start) (body : Body) (point : Point) (air : Air) (found : Plac
   pub found-in-turns : InTurns found
   found-in-turns = subst⁻¹ InTurns place-found (place-at-in-turns body point (instant start))
 
-shown-tells : (x y : ShownAnswer) → shown-answer x ≡ shown-answer y → x ≡ y
-shown-tells (Shows.Seen p) (Shows.Seen q) same = ap (λ (a : Answer Shown). Shows.Seen (a .value)) same
-shown-tells (Shows.Seen p) (Shows.Refused r) same = absurd (never-none r (sym (ap (λ (a : Answer Shown). a .refusal) same)))
-shown-tells (Shows.Refused r) (Shows.Seen p) same = absurd (never-none r (ap (λ (a : Answer Shown). a .refusal) same))
-shown-tells (Shows.Refused r) (Shows.Refused s) same = ap Shows.Refused (number-tells r s (ap (λ (a : Answer Shown). a .refusal) same))
+shown-back : (x : ShownAnswer) → from-answer Shows.Seen Shows.Refused (shown-answer x) ≡ x
+shown-back (Shows.Seen p) = refl
+shown-back (Shows.Refused r) = refused-back Shows.Seen Shows.Refused nothing-shown r
 
 pub one-shown : {found : ShownAnswer} {rule : Answer Shown} → shown-answer found ≡ rule → OneAnswer shown-answer rule found
-one-shown = one-answer shown-tells
+one-shown = one-from Shows.Seen Shows.Refused shown-back

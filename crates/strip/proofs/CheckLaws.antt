@@ -116,7 +116,7 @@ module _ (y m d : ℤ) (e : day-count y m d .refusal ≡ 0) where
 
 -- ---- the point
 
-in-halves : (z : ℤ) → natAbs z ≤ 1_800_000_000 → InHalves 4 z
+in-halves : (z : ℤ) → natAbs z ≤ longitude-limit → InHalves 4 z
 in-halves (pos n) h = omega arith
 in-halves (negsuc n) h = omega arith
 

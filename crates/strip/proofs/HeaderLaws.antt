@@ -18,7 +18,7 @@ use Rattle.strip.proofs.CheckLaws.{Natural}
 
 -- a number of 32 bits, cast to 64
 module _ {n : ℕ} (small : Fits w32 n) where
-  within : n ≤ 4_294_967_295
+  within : n ≤ 2 ^ 32
   within = omega (arith, small .fits)
 
   pub cast-wide : SFits w64 (pos n)

@@ -7,10 +7,9 @@ use native.Mathlib.Omega.{arith}
 use lib.Dec.{eqb, leb}
 use lib.ListN.{length}
 use borrow.Author.Tests.{eqb-true, le-leb, leb-true}
-use Rattle.calendar.proofs.RefusalLaws.{never-none, number-tells, one-answer}
 use Rattle.calendar.specs.Refusal.{OneAnswer, first, number}
 use Rattle.calendar.specs.declared.refusal.Refusal.{Refusal}
-use Rattle.sky.proofs.AnswerLaws.{judged-refusal, judged-value, judged-zeros, not-refused}
+use Rattle.sky.proofs.AnswerLaws.{from-answer, judged-refusal, judged-value, judged-zeros, not-refused, one-from, refused-back}
 use Rattle.sky.specs.Answer.{Answer, judged}
 use Rattle.text.proofs.LineLaws.{first-of, second-of}
 use Rattle.strip.specs.Format.{fields, header-follows, header-in, header-size, length-size}
@@ -86,11 +85,9 @@ module _ (octets : List ℕ) where
   read-refused refusal e = sym (ap (λ (a : Answer Header). a .refusal) e ∙ judged-refusal (first (read-refusals octets)) no-header (header-in (fields octets)))
 
 -- ---- one answer
-read-tells : (x y : Reading) → read-answer x ≡ read-answer y → x ≡ y
-read-tells (Read g) (Read h) same = ap (λ (a : Answer Header). Read (a .value)) same
-read-tells (Read g) (Refused r) same = absurd (never-none r (sym (ap (λ (a : Answer Header). a .refusal) same)))
-read-tells (Refused r) (Read h) same = absurd (never-none r (ap (λ (a : Answer Header). a .refusal) same))
-read-tells (Refused r) (Refused s) same = ap Refused (number-tells r s (ap (λ (a : Answer Header). a .refusal) same))
+read-back : (x : Reading) → from-answer Read Refused (read-answer x) ≡ x
+read-back (Read header) = refl
+read-back (Refused r) = refused-back Read Refused no-header r
 
 pub one-reading : {found : Reading} {rule : Answer Header} → read-answer found ≡ rule → OneAnswer read-answer rule found
-one-reading = one-answer read-tells
+one-reading = one-from Read Refused read-back

@@ -8,14 +8,14 @@ use native.Mathlib.Omega.{arith}
 use lib.Dec.{eqb, leb}
 use lib.ListN.{length, length-append, length-replicate}
 use borrow.Author.Tests.{eqb-true, leb-true, ne-eqb}
-use Rattle.calendar.proofs.RefusalLaws.{never-none, none, none-append, number-tells, one-answer, passes}
+use Rattle.calendar.proofs.RefusalLaws.{none, none-append, passes}
 use Rattle.calendar.specs.Refusal.{OneAnswer, _unless_, first}
 use Rattle.day.specs.Curve.{minutes}
 use Rattle.octets.proofs.FieldLaws.{joined-length, total-alike}
 use Rattle.octets.proofs.PutLaws.{put-twice, put-whole}
 use Rattle.octets.specs.Octets.{alike, joined, total}
 use Rattle.octets.specs.Put.{Put}
-use Rattle.sky.proofs.AnswerLaws.{judged-refusal}
+use Rattle.sky.proofs.AnswerLaws.{from-answer, judged-refusal, one-from, refused-back}
 use Rattle.sky.specs.Answer.{Answer}
 use Rattle.strip.specs.Checks.{header-refusals, steps}
 use Rattle.strip.specs.Format.{HeaderSize, Strip, air-byte, azimuth-size, body-byte, encode, header-numbers, header-size, header-widths, strip-size}
@@ -27,14 +27,12 @@ use Rattle.strip.specs.declared.writer.Writing.the-variants.{Refused, Wr
 use Rattle.strip.proofs.CheckLaws.{steps-most}
 
 -- ---- one answer and no other
-write-tells : (x y : Writing) → write-answer x ≡ write-answer y → x ≡ y
-write-tells (Written m) (Written n) same = ap (λ (a : Answer ℕ). Written (a .value)) same
-write-tells (Written m) (Refused r) same = absurd (never-none r (sym (ap (λ (a : Answer ℕ). a .refusal) same)))
-write-tells (Refused r) (Written n) same = absurd (never-none r (ap (λ (a : Answer ℕ). a .refusal) same))
-write-tells (Refused r) (Refused s) same = ap Refused (number-tells r s (ap (λ (a : Answer ℕ). a .refusal) same))
+write-back : (x : Writing) → from-answer Written Refused (write-answer x) ≡ x
+write-back (Written count) = refl
+write-back (Refused r) = refused-back Written Refused 0 r
 
 pub one-writing : {found : Writing} {rule : Answer ℕ} → write-answer found ≡ rule → OneAnswer write-answer rule found
-one-writing = one-answer write-tells
+one-writing = one-from Written Refused write-back
 
 -- ---- checks that pass
 module _ (strip : Strip) (e : first (strip-refusals strip) ≡ 0) where

@@ -10,7 +10,7 @@ use mir.Val.{ofZ, toZ}
 use mir.ValLaws.{toZ-ofZ}
 use Rattle.octets.specs.Again.{InHalves}
 use Rattle.octets.specs.Octets.{complement}
-use Rattle.strip.specs.Format.{air-byte, body-byte, header-numbers}
+use Rattle.strip.specs.Format.{air-byte, azimuth-size, body-byte, header-follows, header-numbers, version}
 use Rattle.strip.proofs.CheckLaws.{Passes, header-passes}
 use Rattle.strip.proofs.HeaderLaws.{cast-natural, natural-same}
 use Rattle.strip.proofs.header.numbers_of.Statement.{statement}
@@ -77,8 +77,8 @@ returns c =
     let body = longitude .before .before .before .before .before .before .before .before in
     let s = from-body body in
     λ i.
-    (16 + 4 * s .args .count)
-    ∷ 1
+    (header-follows + azimuth-size * s .args .count)
+    ∷ version
     ∷ body .before .air-byte .ensures i
     ∷ body .body-byte .ensures i
     ∷ natAbs (natural-same (good s .year) (lit< tt) i)
