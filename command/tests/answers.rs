@@ -4,7 +4,6 @@ mod running;
 
 use running::{answer, raddlehue};
 use std::fs::OpenOptions;
-use std::process::Stdio;
 
 const BOULDER: [&str; 8] = ["--lat", "39.742476", "--lon", "-105.1786", "--height", "1830", "--delta-t", "67"];
 const DUNEDIN: [&str; 6] = ["--lat", "45.5S", "--lon", "170.5E", "--zone", "+13:00"];
@@ -335,16 +334,6 @@ fn a_full_disk_is_an_error() {
     }
     let full = OpenOptions::new().write(true).open("/dev/full").unwrap();
     assert_eq!(raddlehue(&["--help"]).stdout(full).output().unwrap().status.code(), Some(1));
-}
-
-#[test]
-fn a_reader_that_leaves_is_no_success() {
-    let words = [&["day", "2026-10-10", "--every", "1", "--json"], &DUNEDIN[..]].concat();
-    let mut child = raddlehue(&words).stdout(Stdio::piped()).stderr(Stdio::piped()).spawn().unwrap();
-    drop(child.stdout.take());
-    let output = child.wait_with_output().unwrap();
-    assert_eq!(output.status.code(), Some(1));
-    assert!(output.stderr.is_empty(), "it ends quietly");
 }
 
 #[cfg(target_os = "linux")]

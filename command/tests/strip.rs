@@ -5,7 +5,7 @@ mod running;
 use running::{answer, raddlehue};
 use std::fs::{self, OpenOptions};
 use std::path::PathBuf;
-use std::process::{Output, Stdio};
+use std::process::Output;
 
 const BOULDER: [&str; 8] = ["--lat", "39.742476", "--lon", "105.1786W", "--height", "1830", "--delta-t", "67"];
 /// Where the Sun stands straight overhead at 22:30 UTC of 2027-05-28.
@@ -346,16 +346,6 @@ fn a_full_disk_is_an_error() {
         let output = raddlehue(words).stdout(full).output().unwrap();
         no_answer(words, output, 1, &["the answer cannot be written"]);
     }
-}
-
-#[test]
-fn a_reader_that_leaves_is_no_success() {
-    let room = Room::of("a_reader_that_leaves_is_no_success");
-    let file = room.boulder("17", "b");
-    let mut child = raddlehue(&["strip", "show", &file]).stdout(Stdio::piped()).stderr(Stdio::piped()).spawn().unwrap();
-    drop(child.stdout.take());
-    let output = child.wait_with_output().unwrap();
-    assert_eq!((output.status.code(), output.stderr.len()), (Some(1), 0));
 }
 
 #[test]
