@@ -5,7 +5,7 @@ use mathlib.Core.Path.{_∙_, _≡_, ap, refl, sym}
 use Prim.Native.Nat.{_<_, suc, ℕ}
 use native.Mathlib.Omega.{arith}
 use lib.Dec.{eqb, lit<, ltb}
-use borrow.Author.Tests.{eqb-false, eqb-true}
+use borrow.Author.Tests.{eqb-false, eqb-true, ne-eqb}
 use Rattle.calendar.specs.Refusal.{OneAnswer, VerdictsTold, _else_, _unless_, first, number, strip-number}
 use Rattle.calendar.specs.declared.refusal.Refusal.{Refusal}
 use Rattle.calendar.specs.declared.refusal.Refusal.the-variants as Of
@@ -153,3 +153,15 @@ joined xs ys e f g = e ∙ (λ i. f i else g i) ∙ sym (first-append xs ys)
 
 pub alone : {r n : ℕ} → r ≡ n → r ≡ first (n ∷ [])
 alone {r} {n} e = e ∙ sym (first-one n)
+
+-- a check by itself, from what its test told
+pub check : (n : ℕ) {v : ℕ} {found rule : Bool} → v ≡ n unless found → found ≡ rule → v ≡ first (n unless rule ∷ [])
+check n e f = alone (e ∙ ap (λ (p : Bool). n unless p) f)
+
+-- checks, and those that are made where they pass
+module _ (xs ys : List ℕ) where
+  pub passed-first : first xs ≡ 0 → first (xs ++ ys) ≡ first ys
+  passed-first e = first-append xs ys ∙ ap (λ (n : ℕ). n else first ys) e
+
+  pub refused-first : {n : ℕ} → first xs ≡ n → (n ≡ 0 → ⊥) → first (xs ++ ys) ≡ n
+  refused-first {n} e refuses = first-append xs ys ∙ ap (λ (m : ℕ). m else first ys) e ∙ simp (ne-eqb n 0 refuses)

@@ -11,7 +11,7 @@ use borrow.Author.Tests.{eq-eqb, le-leb, lt-ltb}
 use Rattle.arctangent.specs.Direction.{Reduced}
 use Rattle.arctangent.specs.declared.direction.Direction.{Direction}
 use Rattle.arctangent.specs.declared.direction.Direction.the-variants.{None, Towards}
-use Rattle.calendar.proofs.RefusalLaws.{none, none-append, passes}
+use Rattle.calendar.proofs.RefusalLaws.{none, none-append, passed-first, passes}
 use Rattle.calendar.specs.Refusal.{_unless_, first}
 use Rattle.day.proofs.CurveLaws.{below-length}
 use Rattle.day.specs.Curve.{each-below, minute-of}
@@ -25,7 +25,6 @@ use Rattle.sky_vectors.specs.SkyRange.{latitude-limit, longitude-limit}
 use Rattle.sky_vectors.specs.declared.geocentric.Body.{Body}
 use Rattle.sky_vectors.specs.declared.geocentric.Body.the-variants.{Moon, Sun}
 use Rattle.sky_vectors.specs.declared.station.Point.{Point}
-use Rattle.strip.proofs.CheckLaws.{passed-first}
 use Rattle.strip.specs.Checks.{full-turn, header-refusals, is-azimuth, is-date, is-point, steps}
 use Rattle.strip.specs.Format.{Strip, air-byte, body-byte}
 use Rattle.strip.specs.Reading.{are-azimuths}

@@ -1,6 +1,6 @@
 -- What the checks 22 to 25 say where they pass: every number of a header has room in its width, and the step divides the day.
 use mathlib.Core.Bool.{Bool, _&&_, _||_, cond, false, true}
-use mathlib.Core.List.{List, [], _++_, _∷_}
+use mathlib.Core.List.{[]}
 use mathlib.Core.Logic.{_⊎_, inl, inr, ⊎-elim}
 use mathlib.Core.Path.{_∙_, _≡_, ap, refl, subst, sym}
 use Prim.Native.Nat.{_<_, _≤_, ℕ}
@@ -10,12 +10,12 @@ use lib.Dec.{eqb, leb, lit≤, ltb}
 use lib.IntN.{natAbs, negsuc, pos, ℤ}
 use lib.ListN.{drop}
 use lib.Signed.{leZ}
-use borrow.Author.Tests.{eqb-false, eqb-true, le-leb, leb-true, ltb-true, ne-eqb}
+use borrow.Author.Tests.{eqb-false, eqb-true, le-leb, leb-true, ltb-true}
 use mir.Syntax.{w64}
 use mir.Val.{SFits, ofZ}
 use mir.ValLaws.{toZ-ofZ}
-use Rattle.calendar.proofs.RefusalLaws.{alone, first-append, none, passes}
-use Rattle.calendar.specs.Refusal.{_else_, _unless_, first}
+use Rattle.calendar.proofs.RefusalLaws.{none, passes}
+use Rattle.calendar.specs.Refusal.{_unless_, first}
 use Rattle.day.specs.Curve.{minutes}
 use Rattle.number_rules.proofs.CalendarLaws.{length-most}
 use Rattle.number_rules.specs.Calendar.{DayAnswer, day-count, days-from-2000, month-length}
@@ -33,18 +33,6 @@ use Rattle.strip.specs.declared.header.Header.{Header}
 pub either : (a b : Bool) → (a || b) ≡ true → (a ≡ true) ⊎ (b ≡ true)
 either true b e = inl refl
 either false b e = inr e
-
--- a check by itself, from what its test told
-pub check : (n : ℕ) {v : ℕ} {found rule : Bool} → v ≡ n unless found → found ≡ rule → v ≡ first (n unless rule ∷ [])
-check n e f = alone (e ∙ ap (λ (p : Bool). n unless p) f)
-
--- checks, and those that are made where they pass
-module _ (xs ys : List ℕ) where
-  pub passed-first : first xs ≡ 0 → first (xs ++ ys) ≡ first ys
-  passed-first e = first-append xs ys ∙ ap (λ (n : ℕ). n else first ys) e
-
-  pub refused-first : {n : ℕ} → first xs ≡ n → (n ≡ 0 → ⊥) → first (xs ++ ys) ≡ n
-  refused-first {n} e refuses = first-append xs ys ∙ ap (λ (m : ℕ). m else first ys) e ∙ simp (ne-eqb n 0 refuses)
 
 -- ---- two numbers that are the same
 

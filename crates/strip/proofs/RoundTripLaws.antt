@@ -10,7 +10,7 @@ use lib.IntN.{natAbs}
 use lib.ListN.{drop, getD, length, length-drop, take, take-append-drop}
 use lib.Seq.{drop-at, length-take-le}
 use borrow.Author.Tests.{eq-eqb, eqb-true, lt-ltb}
-use Rattle.calendar.proofs.RefusalLaws.{none, none-append, passes}
+use Rattle.calendar.proofs.RefusalLaws.{none, none-append, passed-first, passes}
 use Rattle.calendar.specs.Refusal.{_unless_, first}
 use Rattle.octets.proofs.FieldLaws.{fit-at, joined-again, left-octets, parted-again, parted-append, parted-fit, taken-octets, total-alike}
 use Rattle.octets.proofs.NumberLaws.{complement-again, complement-small, signed-again}
@@ -31,7 +31,7 @@ use Rattle.strip.specs.RoundTrip.{EveryAzimuthRead, HeaderRead, OctetsAg
 use Rattle.strip.specs.Writing.{strip-refusals}
 use Rattle.strip.specs.declared.header.Header.{Header}
 use Rattle.strip.proofs.AzimuthLaws.{count-in}
-use Rattle.strip.proofs.CheckLaws.{Passes, azimuth-small, header-passes, passed-first}
+use Rattle.strip.proofs.CheckLaws.{Passes, azimuth-small, header-passes}
 use Rattle.strip.proofs.ReadLaws.{answered-with, header-there, length-test, stated-is}
 use Rattle.strip.proofs.WriteLaws.{azimuths-good, count-is, few, head, head-length, header-none, header-size-is, size-again, tail}
 

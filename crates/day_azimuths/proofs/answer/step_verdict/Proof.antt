@@ -4,9 +4,9 @@ use mathlib.Core.Path.{_∙_, _≡_, ap, sym}
 use borrow.Author.Needs.{needs}
 use lib.Dec.{leb}
 use Prim.Native.Nat.{ℕ}
+use Rattle.calendar.proofs.RefusalLaws.{check, passed-first}
 use Rattle.calendar.specs.Refusal.{_unless_, first}
 use Rattle.numbers.proofs.Machine.{any}
-use Rattle.strip.proofs.CheckLaws.{check, passed-first}
 use Rattle.strip.specs.Checks.{is-step, steps}
 use Rattle.day_azimuths.proofs.answer.step_verdict.Statement.{statement}
 use Rattle.day_azimuths.proofs.answer.step_verdict.Tie as tie

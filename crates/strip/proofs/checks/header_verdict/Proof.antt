@@ -7,10 +7,9 @@ use borrow.Author.Needs.{needs}
 use mir.Syntax.{w64}
 use mir.Val.{SFits}
 use mir.ValLaws.{toZ-ofZ}
-use Rattle.calendar.proofs.RefusalLaws.{joined}
+use Rattle.calendar.proofs.RefusalLaws.{check, joined}
 use Rattle.calendar.specs.Refusal.{_unless_}
 use Rattle.strip.specs.Checks.{is-date, is-point, is-step}
-use Rattle.strip.proofs.CheckLaws.{check}
 use Rattle.strip.proofs.checks.header_verdict.Statement.{statement}
 use Rattle.strip.proofs.checks.header_verdict.Tie as tie
 

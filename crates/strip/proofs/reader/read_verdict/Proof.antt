@@ -10,13 +10,13 @@ use borrow.Author.Needs.{needs}
 use mir.Syntax.{w64}
 use mir.Val.{ofZ, toZ}
 use mir.ValLaws.{toZ-ofZ}
-use Rattle.calendar.proofs.RefusalLaws.{joined, never-none, none}
+use Rattle.calendar.proofs.RefusalLaws.{check, joined, never-none, none, passed-first, refused-first}
 use Rattle.calendar.specs.Refusal.{_unless_, first, verdict-number}
 use Rattle.strip.specs.Checks.{header-refusals, is-step}
 use Rattle.strip.specs.Format.{fields, header-in, length-size, version}
 use Rattle.strip.specs.Reading.{length-agrees, stated, step-refusals}
 use Rattle.strip.specs.declared.header.Header.{Header}
-use Rattle.strip.proofs.CheckLaws.{check, header-passes, passed-first, refused-first}
+use Rattle.strip.proofs.CheckLaws.{header-passes}
 use Rattle.strip.proofs.ReadLaws.{length-test}
 use Rattle.strip.proofs.reader.read_verdict.Statement.{statement}
 use Rattle.strip.proofs.reader.read_verdict.Tie as tie

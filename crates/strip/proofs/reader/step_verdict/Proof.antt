@@ -5,14 +5,14 @@ use Prim.Native.Nat.{_*_, _+_, ℕ}
 use native.Mathlib.Omega.{arith}
 use lib.Dec.{eqb}
 use borrow.Author.Needs.{needs}
-use Rattle.calendar.proofs.RefusalLaws.{joined}
+use Rattle.calendar.proofs.RefusalLaws.{check, joined}
 use Rattle.calendar.specs.Refusal.{_unless_}
 use Rattle.numbers.proofs.Machine.{any}
 use Rattle.text.proofs.LineLaws.{to-end}
 use Rattle.strip.specs.Checks.{steps}
 use Rattle.strip.specs.Format.{azimuth-part, azimuth-size, azimuths-in, header-follows, header-size}
 use Rattle.strip.specs.Reading.{are-azimuths}
-use Rattle.strip.proofs.CheckLaws.{check, steps-most}
+use Rattle.strip.proofs.CheckLaws.{steps-most}
 use Rattle.strip.proofs.reader.step_verdict.Statement.{statement}
 use Rattle.strip.proofs.reader.step_verdict.Tie as tie
 

@@ -8,12 +8,12 @@ use borrow.Author.Needs.{needs}
 use mir.Syntax.{w64}
 use mir.Val.{ofZ, toZ}
 use mir.ValLaws.{toZ-ofZ}
-use Rattle.calendar.proofs.RefusalLaws.{joined, never-none}
+use Rattle.calendar.proofs.RefusalLaws.{check, joined, never-none, passed-first, refused-first}
 use Rattle.calendar.specs.Refusal.{_unless_, first, verdict-number}
 use Rattle.strip.specs.Checks.{header-refusals, is-step, steps}
 use Rattle.strip.specs.Format.{air-byte, body-byte, strip-size}
 use Rattle.strip.specs.Reading.{are-azimuths}
-use Rattle.strip.proofs.CheckLaws.{check, header-passes, passed-first, refused-first}
+use Rattle.strip.proofs.CheckLaws.{header-passes}
 use Rattle.strip.proofs.writer.write_verdict.Statement.{statement}
 use Rattle.strip.proofs.writer.write_verdict.Tie as tie
 
