@@ -1,13 +1,13 @@
 -- A list of what a function gives for each number below n: its length, its entries, and how an array is filled with it from the front.
 use mathlib.Core.List.{List, [], _++_, _∷_}
-use mathlib.Core.Path.{_∙_, _≡_, refl}
+use mathlib.Core.Path.{_∙_, _≡_, ap, ap₂, refl, sym}
 use Prim.Native.Nat.{_+_, _<_, _^_, suc, zero, ℕ}
 use native.Mathlib.Decide.{decLt}
 use native.Mathlib.Numerals.{add-one}
 use native.Mathlib.Omega.{arith}
 use lib.IntN.{ℤ}
-use lib.ListN.{List·getD-append, getD, length, length-append, set, take}
-use lib.Seq.{getD-at, take-suc-set}
+use lib.ListN.{List·getD-append, drop, getD, length, length-append, set, take, take-append-drop}
+use lib.Seq.{drop-drop, drop-set-lt, getD-at, take-suc-set}
 use lib.Signed.{mag}
 use mir.Syntax.{w64}
 use mir.Val.{ofZ, toZ}
@@ -43,3 +43,11 @@ module _ {A : Type 0} (f : ℕ → A) where
 pub filled-more : (f : ℕ → ℤ) (now : List ℤ) {v : ℤ} (m : ℕ) → m < length now → take m now ≡ each-below f m → mag v < 2 ^ 63 → v ≡ f m
     → take (m + 1) (set now m (toZ w64 (ofZ w64 v))) ≡ each-below f (m + 1)
 filled-more f now {v} m h so-far range is = filled-next f now m h so-far (toZ-ofZ w64 v (record { sfits = range }) ∙ is)
+
+-- ---- a buffer that is filled from the front, with its rest as it was
+module _ {A : Type 0} (before now : List A) (index : ℕ) (rest : drop index now ≡ drop index before) where
+  pub rest-next : (v : A) → drop (index + 1) (set now index v) ≡ drop (index + 1) before
+  rest-next v = drop-set-lt (index + 1) now index v (omega arith) ∙ sym (drop-drop 1 index now) ∙ ap (drop 1) rest ∙ drop-drop 1 index before
+
+  pub front-and-rest : {front : List A} → take index now ≡ front → now ≡ front ++ drop index before
+  front-and-rest is = sym (take-append-drop index now) ∙ ap₂ _++_ is rest

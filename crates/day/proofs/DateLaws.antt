@@ -1,7 +1,7 @@
 -- An accepted day: each of its minutes is an accepted start of 01, and so is each of the day before, unless it is the first.
 use mathlib.Core.Bool.{true}
 use mathlib.Core.List.{List, _++_}
-use mathlib.Core.Path.{_∙_, _≡_, refl, subst}
+use mathlib.Core.Path.{_∙_, _≡_, refl, subst, subst⁻¹}
 use Prim.Native.Nat.{_%_, _*_, _/_, _<_, _≤_, ℕ}
 use native.Mathlib.Omega.{arith}
 use lib.IntN.{_-ℤ_, pos, ℤ}
@@ -13,8 +13,11 @@ use Rattle.calendar.specs.Refusal.{_else_, first}
 use Rattle.numbers.specs.Whole.{between}
 use Rattle.request.proofs.RequestLaws as Sky
 use Rattle.request.specs.Request.{clock-refusals, date-refusals, elapsed, is-clock, point-refusals, scale-refusals, start-refusals}
-use Rattle.sky_vectors.specs.SkyRange.{OnEarth, Reachable}
+use Rattle.sky_vectors.proofs.SkySizes.{runner-stands}
+use Rattle.sky_vectors.specs.SkyRange.{OnEarth, Reachable, Standing}
+use Rattle.sky_vectors.specs.Station.{runner}
 use Rattle.sky_vectors.specs.declared.station.Point.{Point}
+use Rattle.sky_vectors.specs.declared.station.Runner.{Runner}
 use Rattle.sum_rules.proofs.AcceptedInstants.{terrestrial-near, universal-near}
 use Rattle.sum_rules.specs.Instant.{Accepted, day, day-after-last, first-day, second}
 use Rattle.day.specs.Curve.{AcceptedDay, minute, minute-of, minutes}
@@ -65,6 +68,13 @@ module _ (date : Date) (point : Point) (e : first (day-refusals date point) ≡ 
             subst (λ (z : ℤ). Accepted (days date) z (date .ut1) (date .«delta_t»)) (elapsed-is date m)
             (Sky.accepted (clock date (m / 60) (m % 60)) (start-passes m h));
       }
+
+  -- what is lent to a day's loop, as it was worked
+  pub standing : {found : Runner} → found ≡ runner point → Standing found
+  standing is = subst⁻¹ Standing is (runner-stands point point-on-earth)
+
+  pub today : {d : ℤ} → d ≡ days date → AcceptedDay date d
+  today is = subst⁻¹ (AcceptedDay date) is accepted-day
 
 -- ---- the day before
 earlier : {d elapsed ut1 delta : ℤ} → first-day <ℤ d → Accepted d elapsed ut1 delta → Accepted (d -ℤ pos 1) elapsed ut1 delta

@@ -2,13 +2,18 @@
 use mathlib.Core.List.{List, [], _++_, _∷_}
 use Prim.Native.Nat.{_*_, _-_, _<_, suc, zero, ℕ}
 use lib.IntN.{pos, ℤ}
+use Rattle.arctangent.specs.Direction.{angle-or, mark}
+use Rattle.arctangent.specs.declared.direction.Direction.{Direction}
 use Rattle.sum_rules.specs.Instant.{Accepted, second, terrestrial-time, universal-time}
 use Rattle.sum_rules.specs.declared.instant.Instant.{Instant}
 use Rattle.sky_vectors.specs.Place.{place-at, place-from}
 use Rattle.sky_vectors.specs.declared.geocentric.Body.{Body}
+use Rattle.sky_vectors.specs.declared.place.Place.{Place}
 use Rattle.sky_vectors.specs.declared.station.Point.{Point}
 use Rattle.sky_vectors.specs.declared.station.Runner.{Runner}
 use Rattle.day.specs.Date.{days}
+use Rattle.day.specs.declared.curve.Coordinate.{Coordinate}
+use Rattle.day.specs.declared.curve.Coordinate.the-variants.{Azimuth, Elevation}
 use Rattle.day.specs.declared.date.Date.{Date}
 
 -- minutes 0 to 1439
@@ -33,6 +38,10 @@ minute-of date d m =
 abbrev pub elevation-on : Date → Body → Point → ℤ → ℕ → ℤ
 elevation-on date body point d m = place-at body point (minute-of date d m) .elevation
 
+-- the azimuth at a minute of the date
+abbrev pub azimuth-on : Date → Body → Point → ℕ → Direction
+azimuth-on date body point m = place-at body point (minute-of date (days date) m) .azimuth
+
 -- f of each number below n, in order
 unfoldable pub each-below : {A : Type 0} → (ℕ → A) → ℕ → List A
 each-below f zero = []
@@ -47,6 +56,17 @@ curve date body point = each-below (elevation-on date body point (days date)) mi
 -- the same from where a runner stands, who is worked out once
 abbrev pub elevation-from : Body → Runner → Date → ℤ → ℕ → ℤ
 elevation-from body runner date d m = place-from body runner (minute-of date d m) .elevation
+
+abbrev pub azimuth-from : Body → Runner → Date → ℤ → ℕ → Direction
+azimuth-from body runner date d m = place-from body runner (minute-of date d m) .azimuth
+
+-- a coordinate of a place as one number: where there is no azimuth, the mark
+abbrev pub coordinate-of : Coordinate → Place → ℤ
+coordinate-of Azimuth place = angle-or mark (place .azimuth)
+coordinate-of Elevation place = place .elevation
+
+abbrev pub coordinate-from : Coordinate → Body → Runner → Date → ℤ → ℕ → ℤ
+coordinate-from coordinate body runner date d m = coordinate-of coordinate (place-from body runner (minute-of date d m))
 
 -- a day whose every minute is accepted
 pub record AcceptedDay (date : Date) (d : ℤ) : Type 0 where

@@ -3,6 +3,7 @@ use super::crossing::Crossing;
 use super::crossing::Event;
 use super::crossing::first_crossing;
 use super::crossing::is_up;
+use super::curve::Coordinate;
 use super::curve::MINUTES;
 use super::curve::elevation_from;
 use super::curve::fill;
@@ -70,7 +71,15 @@ fn work(table: &[u32; 361], date: Date, body: Body, point: Point, elevations: &m
 {
     let runner = runner_at(table, point);
     let days = days_of(date);
-    fill(table, body, runner, date, days, elevations);
+    fill(
+        Coordinate::Elevation,
+        table,
+        body,
+        runner,
+        date,
+        days,
+        elevations,
+    );
     let up_before = is_up_before(table, body, runner, date, days, elevations[0]);
     let rise = first_crossing(Event::Rise, up_before, elevations);
     let set = first_crossing(Event::Set, up_before, elevations);

@@ -14,7 +14,7 @@ use Rattle.arctangent.specs.declared.direction.Direction.the-variants.{None, To
 use Rattle.calendar.proofs.RefusalLaws.{none, none-append, passed-first, passes}
 use Rattle.calendar.specs.Refusal.{_unless_, first}
 use Rattle.day.proofs.CurveLaws.{below-length}
-use Rattle.day.specs.Curve.{each-below, minute-of}
+use Rattle.day.specs.Curve.{azimuth-on, each-below, minute-of}
 use Rattle.day.specs.Date.{count, days}
 use Rattle.day.specs.declared.date.Date.{Date}
 use Rattle.numbers.specs.Whole.{between}
@@ -33,7 +33,7 @@ use Rattle.sum_rules.specs.Instant.{minus}
 use Rattle.text.proofs.WordLaws.{all-append}
 use Rattle.text.specs.Line.{all}
 use Rattle.day_azimuths.specs.Answer.{azimuths-refusals}
-use Rattle.day_azimuths.specs.Azimuths.{SameTurn, azimuth-on, coarser, strip-azimuth, worked}
+use Rattle.day_azimuths.specs.Azimuths.{SameTurn, coarser, strip-azimuth, worked}
 use Rattle.day_azimuths.specs.Strips.{EveryDayWritable, day-strip}
 use Rattle.day_azimuths.proofs.AnswerLaws.{day-passes, refusal-is, step-passes}
 

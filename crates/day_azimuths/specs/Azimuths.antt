@@ -5,11 +5,9 @@ use Prim.Native.Nat.{_*_, _/_, ℕ}
 use lib.IntN.{natAbs, ℤ}
 use Rattle.arctangent.specs.declared.direction.Direction.{Direction}
 use Rattle.arctangent.specs.declared.direction.Direction.the-variants.{None, Towards}
-use Rattle.day.specs.Curve.{each-below, minute-of}
-use Rattle.day.specs.Date.{days}
+use Rattle.day.specs.Curve.{azimuth-from, azimuth-on, each-below}
 use Rattle.day.specs.declared.date.Date.{Date}
 use Rattle.number_rules.specs.Angle as Angle
-use Rattle.sky_vectors.specs.Place.{place-at, place-from}
 use Rattle.sky_vectors.specs.declared.geocentric.Body.{Body}
 use Rattle.sky_vectors.specs.declared.station.Point.{Point}
 use Rattle.sky_vectors.specs.declared.station.Runner.{Runner}
@@ -28,10 +26,6 @@ abbrev pub strip-azimuth : Direction → ℕ
 strip-azimuth (Towards angle) = angle .units / coarser
 strip-azimuth None = absent
 
--- the azimuth at a minute of the date
-abbrev pub azimuth-on : Date → Body → Point → ℕ → Direction
-azimuth-on date body point m = place-at body point (minute-of date (days date) m) .azimuth
-
 -- one azimuth per step from minute 0
 unfoldable pub worked : Date → Body → Point → ℤ → List ℕ
 worked date body point step = each-below (λ i. strip-azimuth (azimuth-on date body point (i * natAbs step))) (steps step)
@@ -39,5 +33,5 @@ worked date body point step = each-below (λ i. strip-azimuth (azimuth-on date b
 -- ---- how it is worked
 
 -- the same from where a runner stands, who is worked out once
-abbrev pub azimuth-from : Body → Runner → Date → ℤ → ℕ → ℕ → ℕ
-azimuth-from body runner date d step i = strip-azimuth (place-from body runner (minute-of date d (i * step)) .azimuth)
+abbrev pub strip-azimuth-from : Body → Runner → Date → ℤ → ℕ → ℕ → ℕ
+strip-azimuth-from body runner date d step i = strip-azimuth (azimuth-from body runner date d (i * step))

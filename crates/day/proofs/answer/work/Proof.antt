@@ -1,11 +1,10 @@
 -- `answer::work` meets its contract. What is lent to the loops is what the definitions work afresh for each minute; the curve's entries then decide both events.
-use mathlib.Core.Path.{_∙_, _≡_, ap, subst⁻¹}
+use mathlib.Core.Path.{_∙_, _≡_, ap}
 use lib.Dec.{lit<}
 use borrow.Author.Needs.{needs}
 use mir.Syntax.{w64}
 use mir.Val.{ofZ, toZ}
 use Rattle.numbers.proofs.Machine.{passed}
-use Rattle.sky_vectors.proofs.SkySizes.{runner-stands}
 use Rattle.sky_vectors.specs.Place.{place-at}
 use Rattle.sky_vectors.specs.SkyRange.{Standing}
 use Rattle.day.specs.Crossing.{first-minute}
@@ -14,7 +13,7 @@ use Rattle.day.specs.Date.{days}
 use Rattle.day.specs.Worked.{crosses-in, entry, up-before-day}
 use Rattle.day.specs.declared.crossing.Event.the-variants.{Rise, Set}
 use Rattle.day.proofs.CrossingLaws.{curve-decides, entry-is, side-before}
-use Rattle.day.proofs.DateLaws.{accepted-day, day-before, point-on-earth}
+use Rattle.day.proofs.DateLaws.{day-before, point-on-earth, standing, today}
 use Rattle.day.proofs.answer.work.Statement.{statement}
 use Rattle.day.proofs.answer.work.Tie as tie
 
@@ -23,14 +22,11 @@ module _ (c : tie.After-days-of) where
   abbrev s : tie.Start
   s = c .before .before
 
-  stands : Standing (c .before .runner-at .result)
-  stands = subst⁻¹ Standing (c .before .runner-at .ensures) (runner-stands (s .args .point) (point-on-earth (s .args .date) (s .args .point) (s .pre .0 .1)))
-
   days-is : toZ w64 (ofZ w64 (c .days-of .result)) ≡ days (s .args .date)
   days-is = passed (c .days-of .ok) (c .days-of .ensures)
 
-  today : AcceptedDay (s .args .date) (toZ w64 (ofZ w64 (c .days-of .result)))
-  today = subst⁻¹ (AcceptedDay (s .args .date)) days-is (accepted-day (s .args .date) (s .args .point) (s .pre .0 .1))
+  lent : Standing (c .before .runner-at .result) × AcceptedDay (s .args .date) (toZ w64 (ofZ w64 (c .days-of .result)))
+  lent = (standing (s .args .date) (s .args .point) (s .pre .0 .1) (c .before .runner-at .ensures), today (s .args .date) (s .args .point) (s .pre .0 .1) days-is)
 
 -- the curve, and the side before it
 module _ (c : tie.After-is-up-before) where
@@ -43,7 +39,7 @@ module _ (c : tie.After-is-up-before) where
   abbrev asked : tie.Start
   asked = s common
 
-  curve-is : filled .fill .last .1 .1 .1 .1 .1 .0 ≡ curve (asked .args .date) (asked .args .body) (asked .args .point)
+  curve-is : filled .fill .last .1 .1 .1 .1 .1 .1 .0 ≡ curve (asked .args .date) (asked .args .body) (asked .args .point)
   unfolding curve place-at
   curve-is =
       filled .fill .ensures
@@ -63,13 +59,13 @@ days-of-requires : tie.Need-days-of-requires
 days-of-requires c κs = search needs
 
 fill-requires : tie.Need-fill-requires
-fill-requires c κs = let k = c .before in ((s k .pre .0 .0, (stands k, today k)), s k .pre .1)
+fill-requires c κs = let k = c .before in ((s k .pre .0 .0, lent k), s k .pre .1)
 
 slice-copy-out-is-up-before : tie.Need-slice-copy-out-is-up-before
 slice-copy-out-is-up-before c = search needs
 
 is-up-before-requires : tie.Need-is-up-before-requires
-is-up-before-requires c κs = let k = c .before .before .before .before in (s k .pre .0 .0, (stands k, day-before (today k)))
+is-up-before-requires c κs = let k = c .before .before .before .before in (s k .pre .0 .0, (lent k .0, day-before (lent k .1)))
 
 first-crossing-requires : tie.Need-first-crossing-requires
 first-crossing-requires c κs = search needs

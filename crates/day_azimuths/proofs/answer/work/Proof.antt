@@ -8,16 +8,15 @@ use lib.ListN.{drop}
 use borrow.Author.Needs.{needs}
 use mir.Syntax.{w64}
 use mir.Val.{ofZ, toZ}
-use Rattle.day.proofs.DateLaws.{accepted-day, point-on-earth}
+use Rattle.day.proofs.DateLaws.{point-on-earth, standing, today}
 use Rattle.day.specs.Curve.{AcceptedDay, each-below, minutes}
 use Rattle.day.specs.Date.{days}
 use Rattle.numbers.proofs.Machine.{any, passed, to-nat}
-use Rattle.sky_vectors.proofs.SkySizes.{runner-stands}
 use Rattle.sky_vectors.specs.Place.{place-at}
 use Rattle.sky_vectors.specs.SkyRange.{Standing}
 use Rattle.strip.proofs.CheckLaws.{step-natural}
 use Rattle.strip.specs.Checks.{steps}
-use Rattle.day_azimuths.specs.Azimuths.{azimuth-from, worked}
+use Rattle.day_azimuths.specs.Azimuths.{strip-azimuth-from, worked}
 use Rattle.day_azimuths.proofs.StepLaws.{all-in-day}
 use Rattle.day_azimuths.proofs.answer.work.Statement.{statement}
 use Rattle.day_azimuths.proofs.answer.work.Tie as tie
@@ -27,14 +26,11 @@ module _ (c : tie.After-steps-of) where
   abbrev s : tie.Start
   s = c .before .before .before .before
 
-  stands : Standing (c .before .before .runner-at .result)
-  stands = subst⁻¹ Standing (c .before .before .runner-at .ensures) (runner-stands (s .args .point) (point-on-earth (s .args .date) (s .args .point) (s .pre .0 .1)))
-
   days-is : toZ w64 (ofZ w64 (c .before .days-of .result)) ≡ days (s .args .date)
   days-is = passed (c .before .days-of .ok) (c .before .days-of .ensures)
 
-  today : AcceptedDay (s .args .date) (toZ w64 (ofZ w64 (c .before .days-of .result)))
-  today = subst⁻¹ (AcceptedDay (s .args .date)) days-is (accepted-day (s .args .date) (s .args .point) (s .pre .0 .1))
+  lent : Standing (c .before .before .runner-at .result) × AcceptedDay (s .args .date) (toZ w64 (ofZ w64 (c .before .days-of .result)))
+  lent = (standing (s .args .date) (s .args .point) (s .pre .0 .1) (c .before .before .runner-at .ensures), today (s .args .date) (s .args .point) (s .pre .0 .1) days-is)
 
   step-is : toZ w64 (ofZ w64 (s .args .step)) ≡ s .args .step
   step-is = any (s .fits .step) .same
@@ -60,7 +56,7 @@ cast-fill c = let n = step-natural (s c .args .step) (s c .pre .1 .0) in to-nat 
 fill-requires : tie.Need-fill-requires
 fill-requires c κs =
     let k = c .before in
-    ((s k .pre .0 .0, (stands k, today k)), (in-day k, omega (arith, count-is k, s k .pre .1 .1)))
+    ((s k .pre .0 .0, lent k), (in-day k, omega (arith, count-is k, s k .pre .1 .1)))
 
 same-length : tie.Need-same-length
 same-length c = search needs
@@ -73,7 +69,7 @@ returns c =
     let a = s k .args in (
       count-is k,
       filled .fill .ensures
-          ∙ (λ i. each-below (azimuth-from (a .body) (k .before .before .runner-at .ensures i) (a .date) (days-is k i) (natAbs (step-is k i))) (count-is k i) ++ drop (count-is k i) (a .azimuths .now)),
+          ∙ (λ i. each-below (strip-azimuth-from (a .body) (k .before .before .runner-at .ensures i) (a .date) (days-is k i) (natAbs (step-is k i))) (count-is k i) ++ drop (count-is k i) (a .azimuths .now)),
     )
 
 pub work-spec : {M : Type 1} → statement M

@@ -1,15 +1,12 @@
--- `steps::azimuth_from` meets its contract.
+-- `curve::azimuth_from` meets its contract.
 use mathlib.Core.Path.{_∙_, ap, subst⁻¹}
 use borrow.Author.Needs.{needs}
-use Rattle.arctangent.proofs.ArctangentLaws.{arctangent-reduced}
-use Rattle.arctangent.specs.Direction.{Reduced}
 use Rattle.sky_vectors.proofs.SkySizes.{direction-small, widen}
 use Rattle.sky_vectors.specs.Horizon.{azimuth, horizon}
 use Rattle.sky_vectors.specs.Place.{place-from, place-towards}
 use Rattle.sky_vectors.specs.SkyRange.{SmallVector, direction-limit}
-use Rattle.day_azimuths.specs.Azimuths.{strip-azimuth}
-use Rattle.day_azimuths.proofs.steps.azimuth_from.Statement.{statement}
-use Rattle.day_azimuths.proofs.steps.azimuth_from.Tie as tie
+use Rattle.day.proofs.curve.azimuth_from.Statement.{statement}
+use Rattle.day.proofs.curve.azimuth_from.Tie as tie
 
 -- the direction is small
 module _ (c : tie.After-direction-at) where
@@ -28,23 +25,12 @@ horizon-at-requires c κs = (s c .pre .1 .0 .latitude-angle, widen tt (small c))
 azimuth-requires : tie.Need-azimuth-requires
 azimuth-requires c κs = search needs
 
-strip-azimuth-requires : tie.Need-strip-azimuth-requires
-strip-azimuth-requires c κs = let seen = c .before .horizon-at .result in subst⁻¹ Reduced (c .azimuth .ensures) (unfold azimuth in (arctangent-reduced (seen .east) (seen .north)))
-
 returns : tie.Need-returns
 unfolding place-from place-towards
 returns c =
-    let seen = c .before .before in
+    let seen = c .before in
     let latitude = s (seen .before) .args .runner .latitude in
-    c .strip-azimuth .ensures
-    ∙ ap strip-azimuth (c .before .azimuth .ensures ∙ ap azimuth (seen .horizon-at .ensures ∙ ap (horizon latitude) (seen .before .direction-at .ensures)))
+    c .azimuth .ensures ∙ ap azimuth (seen .horizon-at .ensures ∙ ap (horizon latitude) (seen .before .direction-at .ensures))
 
 pub azimuth-from-spec : {M : Type 1} → statement M
-azimuth-from-spec =
-    tie.close
-    (tie.spec
-    direction-at-requires
-    horizon-at-requires
-    azimuth-requires
-    strip-azimuth-requires
-    returns)
+azimuth-from-spec = tie.close (tie.spec direction-at-requires horizon-at-requires azimuth-requires returns)
