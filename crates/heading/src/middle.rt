@@ -12,14 +12,14 @@ pub enum Middle {
     Refused(Refusal),
 }
 
-fn is_reduced(x: i64) -> bool
+pub fn is_reduced(x: i64) -> bool
     ensures { λ r. ⌜ r ≡ is-reduced x ⌝ }
 {
     if x < 0 { false } else { x < Angle::FULL as i64 }
 }
 
 // The arc from a to b, clockwise.
-fn clockwise(a: u64, b: u64) -> u64
+pub fn clockwise(a: u64, b: u64) -> u64
     requires { ⌜ (a < full-turn) × (b < full-turn) ⌝ }
     ensures { λ r. ⌜ r ≡ clockwise a b ⌝ }
 {
