@@ -1,7 +1,7 @@
 # make               build the command `raddlehue` over the proved archive, and show today's Sun and Moon
 # make test          the gate: outside checks, every proof from nothing (it removes target/ first), every must-fail edit
 # make differential  a million random requests and 5,000 whole days, the archive against the ordinary Rust version
-# make memcheck      a million damaged strips under valgrind: nothing is read or written outside of what was lent (minutes)
+# make memcheck      a million damaged strips, and turning points at their edges, under valgrind: nothing is read or written outside of what was lent (minutes)
 # make figures       measure, and write docs/FIGURES.md
 # make lib           prove and build the archive for C and Rust, target/lib/libraddlehue.a
 # make install       install it, the command, the header, the documents and a pkg-config file: PREFIX=/usr/local, and DESTDIR before it
@@ -57,8 +57,9 @@ differential:
 memcheck:
 	$(needs_rt)
 	@command -v valgrind > /dev/null || { echo "make $@ needs valgrind (Debian's package valgrind), and no valgrind is on the PATH" >&2; exit 1; }
-	@tools/build-tests strip_edges fuzz_strips
+	@tools/build-tests strip_edges proposal_edges fuzz_strips
 	@valgrind --quiet --error-exitcode=1 target/tests/strip_edges
+	@valgrind --quiet --error-exitcode=1 target/tests/proposal_edges
 	@valgrind --quiet --error-exitcode=1 target/tests/fuzz_strips 1000000
 
 figures:

@@ -3,7 +3,7 @@
  * Link libraddlehue.a. No function keeps state, allocates or reads a clock, so any number of threads may call any of them; every number may be given, and what
  * cannot be answered is refused by a number. Each function comes in two forms: an export, which gives the refusal (0 where there is none), writes its answer
  * through a pointer, and **writes nothing where it refuses**; and beside it an inline function whose name ends in _of, which takes structs and returns the answer
- * as a struct, with the refusal in it and zeros elsewhere (but for the index of 13).
+ * as a struct, with the refusal in it and zeros elsewhere (but for the index of 13 and the minute of 31).
  *
  * Names say their unit: _e7 and _e8 are 1e-7 and 1e-8 degree, _e10 is 1e-10, _tenths are tenths of a second, _millionths are of the Sun's disk. Azimuth counts from
  * north over east (east is 90 degrees), longitude is east positive, latitude north positive, time is UTC in the Gregorian calendar and never a local zone, elevation
@@ -35,9 +35,9 @@ extern "C" {
 #endif
 
 /* The version of this header and of the archive beside it. The first number changes when old code must not compile. */
-#define RADDLEHUE_VERSION "3.1.0"
+#define RADDLEHUE_VERSION "3.2.0"
 #define RADDLEHUE_VERSION_MAJOR 3
-#define RADDLEHUE_VERSION_MINOR 1
+#define RADDLEHUE_VERSION_MINOR 2
 #define RADDLEHUE_VERSION_PATCH 0
 
 /* Units of time to a second, and units of angle to a degree. */
@@ -49,8 +49,8 @@ extern "C" {
  * raddlehue_middle refuses it by 15. (INT64_MAX, whose name an old C++ may lack.) */
 #define RADDLEHUE_NO_DIRECTION_E8 9223372036854775807
 
-/* The refusals. They are checked in the order of their numbers, but 15 before 14, and those from 101 on first of all, since no request can be formed; a strip's have an
- * order of their own. Each function's comment says which it gives. docs/REFUSALS.md has the list. */
+/* The refusals. They are checked in the order of their numbers, but 15 before 14, and those from 101 on first of all, since no request can be formed (but 107, the last); a
+ * strip's have an order of their own. Each function's comment says which it gives. docs/REFUSALS.md has the list. */
 enum {
     RADDLEHUE_ACCEPTED = 0,
     RADDLEHUE_YEAR = 1,
@@ -78,12 +78,16 @@ enum {
     RADDLEHUE_STRIP_AZIMUTH = 26,
     RADDLEHUE_STRIP_NOT_FOUND = 27,
     RADDLEHUE_STRIP_BUFFER = 28,
+    RADDLEHUE_PROPOSAL_POINTS = 29,
+    RADDLEHUE_PROPOSAL_OPPOSITE = 30,
+    RADDLEHUE_PROPOSAL_OUT = 31,
     RADDLEHUE_UNKNOWN_BODY = 101,
     RADDLEHUE_UNKNOWN_AIR = 102,
     RADDLEHUE_NO_ELEVATION = 103,
     RADDLEHUE_OUT_OF_REACH = 104,
     RADDLEHUE_NO_DISKS = 105,
-    RADDLEHUE_NO_STEP = 106
+    RADDLEHUE_NO_STEP = 106,
+    RADDLEHUE_NO_PLAN = 107
 };
 
 /* A refusal in words; of a number that is none, that it is unknown. The text is constant and not to be freed. */
@@ -116,12 +120,16 @@ RADDLEHUE_INLINE const char *raddlehue_refusal_text(uint32_t refusal)
     case RADDLEHUE_STRIP_AZIMUTH: return "an azimuth of the strip is neither absent nor from 0 up to but not 360 degrees";
     case RADDLEHUE_STRIP_NOT_FOUND: return "neither strip bears that date";
     case RADDLEHUE_STRIP_BUFFER: return "the buffer is too small for the strip or its azimuths";
+    case RADDLEHUE_PROPOSAL_POINTS: return "the turning points are not 2 to 1,440 minutes that rise from 0 to 1439, each with an azimuth from 0 up to but not 360 degrees";
+    case RADDLEHUE_PROPOSAL_OPPOSITE: return "two neighbouring turning points lie exactly half a turn apart";
+    case RADDLEHUE_PROPOSAL_OUT: return "a minute of the proposal is out of tolerance";
     case RADDLEHUE_UNKNOWN_BODY: return "the body is neither Sun nor Moon";
     case RADDLEHUE_UNKNOWN_AIR: return "the air is none of none, standard and measured";
     case RADDLEHUE_NO_ELEVATION: return "the elevation is not within 90 degrees";
     case RADDLEHUE_OUT_OF_REACH: return "the instant is not within 31,904,733,600 tenths of a second of 2000-01-01 12:00";
     case RADDLEHUE_NO_DISKS: return "the separation is not 0 to 180 degrees, the Sun's radius not 0.2 to 0.3 or the Moon's not 0 to 0.3";
     case RADDLEHUE_NO_STEP: return "the strip has no such step";
+    case RADDLEHUE_NO_PLAN: return "there is no plan: a minute of the day has no azimuth, or two adjacent minutes are exactly opposite";
     default: return "unknown refusal";
     }
 }
@@ -458,6 +466,58 @@ RADDLEHUE_INLINE raddlehue_strip_find_answer_t raddlehue_strip_find_of(
     answer.strip = part.strip;
     answer.offset = part.offset;
     answer.length = part.length;
+    return answer;
+}
+
+/* ---- a short strip: turning points that the phone proposes, and the watch's verdict on them */
+
+/* A proposal is a list of minutes of a UTC date, strictly rising, the first 0 and the last 1439, and an azimuth to each, 0 to 35,999,999,999. Between two of them the
+ * azimuth goes the short way round in proportion to the time, rounded down from the earlier one: from 13 back to 10 in two minutes it is 11 at the first. A proposal is
+ * accepted exactly where at every minute its azimuth lies within the tolerance, the short way round, of the body's azimuth 0 seconds into that minute; a minute at which
+ * the body has no azimuth is not compared. */
+
+/* The watch's verdict. The points are only read. `out_minute`, the first minute out of tolerance, is written where the refusal is 31, and nowhere else. A length counts
+ * entries, and one of 0 may come with a null pointer. Refused: 101, then 1 to 3, 5 to 9, 29 (also where one list is longer than the other), 30 and 31. */
+uint32_t raddlehue_judge(
+    const raddlehue_date_t *date, uint32_t body, const raddlehue_point_t *point, uint64_t tolerance_e8,
+    const uint32_t *minutes, uint64_t minutes_length, const int64_t *azimuths_e8, uint64_t azimuths_length,
+    uint32_t *out_minute);
+
+typedef struct {
+    uint32_t refusal;
+    uint32_t out_minute; /* the first minute out of tolerance where the refusal is 31; otherwise 0 */
+} raddlehue_judge_answer_t;
+
+RADDLEHUE_INLINE raddlehue_judge_answer_t raddlehue_judge_of(
+    raddlehue_date_t date, uint32_t body, raddlehue_point_t point, uint64_t tolerance_e8,
+    const uint32_t *minutes, uint64_t minutes_length, const int64_t *azimuths_e8, uint64_t azimuths_length)
+{
+    raddlehue_judge_answer_t answer;
+    answer.out_minute = 0;
+    answer.refusal = raddlehue_judge(
+        &date, body, &point, tolerance_e8, minutes, minutes_length, azimuths_e8, azimuths_length, &answer.out_minute);
+    return answer;
+}
+
+/* A proposal for the day, of the first `count` entries of two buffers of RADDLEHUE_DAY_MINUTES each; entries behind them are left alone. Its points are azimuths of the
+ * body; raddlehue_judge accepts it at the tolerance that it was planned for, whichever that is, and would refuse it, by 30 or 31, if any one inner point were dropped.
+ * For the phone: some 12 KB of stack more than the others take, 1,440 azimuths, and up to 500 million comparisons, on real days about a million (docs/FIGURES.md has the
+ * times). Refused: 101, then 1 to 3, 5 to 9, and last 107, no plan: exactly where a minute of the day has no azimuth or two adjacent minutes are exactly opposite. */
+uint32_t raddlehue_plan(
+    const raddlehue_date_t *date, uint32_t body, const raddlehue_point_t *point, uint64_t tolerance_e8,
+    uint32_t *minutes, int64_t *azimuths_e8, uint64_t *count);
+
+typedef struct {
+    uint32_t refusal;
+    uint64_t count;
+} raddlehue_plan_answer_t;
+
+RADDLEHUE_INLINE raddlehue_plan_answer_t raddlehue_plan_of(
+    raddlehue_date_t date, uint32_t body, raddlehue_point_t point, uint64_t tolerance_e8, uint32_t *minutes, int64_t *azimuths_e8)
+{
+    raddlehue_plan_answer_t answer;
+    answer.count = 0;
+    answer.refusal = raddlehue_plan(&date, body, &point, tolerance_e8, minutes, azimuths_e8, &answer.count);
     return answer;
 }
 

@@ -228,12 +228,15 @@ static void show_long(const void *memory, unsigned width, int cells) {
 }
 
 /* A day's eight numbers: a date of five and a point of three, as the header's structs lie. */
+static const raddlehue_date_t *date_of(const int64_t n[8]) { return (const raddlehue_date_t *)(const void *)n; }
+static const raddlehue_point_t *point_of_day(const int64_t n[8]) { return (const raddlehue_point_t *)(const void *)(n + 5); }
+
+static void name_day(const char *what, const int64_t n[8], uint32_t body) { name(what), numbers(n, 5), word(body), numbers(n + 5, 3); }
+
 static void show_day(const int64_t n[8], uint32_t body) {
-    const raddlehue_date_t *date = (const raddlehue_date_t *)(const void *)n;
-    const raddlehue_point_t *point = (const raddlehue_point_t *)(const void *)(n + 5);
     poison(curve, sizeof curve);
-    name("day"), numbers(n, 5), word(body), numbers(n + 5, 3);
-    show_lent(raddlehue_day(date, body, point, (int64_t *)&curve[SIDE], lend()), 2), show_long(curve, 8, MINUTES), end_line();
+    name_day("day", n, body);
+    show_lent(raddlehue_day(date_of(n), body, point_of_day(n), (int64_t *)&curve[SIDE], lend()), 2), show_long(curve, 8, MINUTES), end_line();
 }
 
 /* ---- strips */
@@ -285,11 +288,11 @@ static const uint8_t *put_strip(uint8_t *bytes, const strip_t *strip) {
 
 /* A day's azimuths; and where there are any the first of them, and the strip that is written of them. */
 static void show_day_azimuths(const int64_t n[8], uint32_t body, int64_t step, uint64_t length) {
-    const raddlehue_date_t *date = (const raddlehue_date_t *)(const void *)n;
-    const raddlehue_point_t *point = (const raddlehue_point_t *)(const void *)(n + 5);
+    const raddlehue_date_t *date = date_of(n);
+    const raddlehue_point_t *point = point_of_day(n);
     uint32_t refusal;
     poison(azimuths, sizeof azimuths), poison(written, sizeof written);
-    name("day_azimuths"), numbers(n, 5), word(body), numbers(n + 5, 3), word((uint64_t)step), word(length);
+    name_day("day_azimuths", n, body), word((uint64_t)step), word(length);
     refusal = raddlehue_day_azimuths(date, body, point, step, length ? &azimuths[SIDE] : 0, length, lend());
     show_lent(refusal, 1), show_long(azimuths, 4, MINUTES);
     if (refusal == RADDLEHUE_ACCEPTED) {
@@ -330,6 +333,57 @@ static void show_strip_find(const strip_t *first, const strip_t *second, const i
     const uint8_t *one = put_strip(strips[0], first), *two = put_strip(strips[1], second);
     name("strip_find"), show_strip(first), show_strip(second), numbers(date, 3);
     show_lent(raddlehue_strip_find(one, first->length, two, second->length, date[0], date[1], date[2], lend()), 3), end_line();
+}
+
+/* ---- turning points */
+
+enum { POINTS = 12 };
+
+/* A proposal as a line has it: so many minutes, and so many azimuths. */
+typedef struct {
+    uint32_t minutes[POINTS];
+    int64_t azimuths[POINTS];
+    uint64_t minutes_length, azimuths_length;
+} proposal_t;
+
+/* The minute takes the lower half of its word: the upper stays poisoned. */
+static void show_judge(const int64_t n[8], uint32_t body, uint64_t tolerance, const proposal_t *given) {
+    const uint32_t *minutes = given->minutes_length ? given->minutes : 0;
+    const int64_t *directions = given->azimuths_length ? given->azimuths : 0;
+    uint32_t refusal;
+    name_day("judge", n, body), word(tolerance), word(given->minutes_length);
+    for (uint64_t i = 0; i < given->minutes_length; i++) {
+        word(given->minutes[i]);
+    }
+    word(given->azimuths_length), numbers(given->azimuths, (int)given->azimuths_length);
+    refusal = raddlehue_judge(date_of(n), body, point_of_day(n), tolerance, minutes, given->minutes_length, directions, given->azimuths_length, lend());
+    show_lent(refusal, 1), end_line();
+}
+
+/* A plan, which lies where a day's azimuths and its curve do; and where there is one the verdict on it, and on it without the point in its middle. */
+static void show_plan(const int64_t n[8], uint32_t body, uint64_t tolerance) {
+    const raddlehue_date_t *date = date_of(n);
+    const raddlehue_point_t *point = point_of_day(n);
+    uint32_t *minutes = &azimuths[SIDE], refusal;
+    int64_t *directions = (int64_t *)&curve[SIDE];
+    uint64_t count;
+    poison(azimuths, sizeof azimuths), poison(curve, sizeof curve);
+    name_day("plan", n, body), word(tolerance);
+    refusal = raddlehue_plan(date, body, point, tolerance, minutes, directions, lend());
+    count = lent[SIDE];
+    show_lent(refusal, 1), show_long(azimuths, 4, MINUTES), show_long(curve, 8, MINUTES);
+    if (refusal == RADDLEHUE_ACCEPTED) {
+        refusal = raddlehue_judge(date, body, point, tolerance, minutes, count, directions, count, lend());
+        show_lent(refusal, 1);
+    }
+    if (refusal == RADDLEHUE_ACCEPTED && count > 2) {
+        for (uint64_t i = count / 2; i + 1 < count; i++) {
+            minutes[i] = minutes[i + 1], directions[i] = directions[i + 1];
+        }
+        refusal = raddlehue_judge(date, body, point, tolerance, minutes, count - 1, directions, count - 1, lend());
+        show_lent(refusal, 1);
+    }
+    end_line();
 }
 
 static void show_eclipse(const int64_t n[12]) {
@@ -428,6 +482,7 @@ static void random_day(const int64_t n[12], uint32_t body, int whole) {
 }
 
 static const int64_t STEPS[4] = {1, 2, 5, 10};
+static const uint64_t TOLERANCES[4] = {1000000, 0, 500, 100000000};
 
 /* Likewise: most have too few entries for any step, or something that is refused before that. */
 static void random_day_azimuths(const int64_t n[12], uint32_t body, int whole, int64_t step) {
@@ -578,6 +633,90 @@ static void random_strip_find(void) {
     show_strip_find(&first, &second, date);
 }
 
+/* The body's azimuth at a minute of the day, some units beside it; where it has none, or the day is refused, the north. */
+static int64_t near_azimuth(const int64_t day[8], uint32_t body, uint32_t minute) {
+    const int64_t n[12] = {day[0], day[1], day[2], minute / 60, minute % 60, 0, 0, day[3], day[4], day[5], day[6], day[7]};
+    raddlehue_place_t place = {0, 0};
+    uint32_t flag;
+    raddlehue_place(start_of(n), body, point_of(n), RADDLEHUE_AIR_NONE, 0.0, 0.0, &flag, &place);
+    return (place.azimuth_if_any_e8 + between(-2, 2) + 36000000000) % 36000000000;
+}
+
+/* Points that rise from 0 to 1439. Only the first two lie near the body, so that some minutes are within a tolerance and the next is not. One may be opposite to the one
+ * before. */
+static void random_points(const int64_t day[8], uint32_t body, int opposite, proposal_t *drawn) {
+    const uint32_t count = (uint32_t)between(2, POINTS), last = MINUTES - 1;
+    for (uint32_t i = 0; i < POINTS; i++) {
+        drawn->minutes[i] = last, drawn->azimuths[i] = field(0, 35999999999);
+    }
+    drawn->minutes[0] = 0, drawn->azimuths[0] = near_azimuth(day, body, 0);
+    for (uint32_t i = 1; i + 1 < count; i++) {
+        const uint32_t before = drawn->minutes[i - 1], most = last - (count - 1 - i);
+        drawn->minutes[i] = (uint32_t)between(before + 1, i > 1 ? most : 8);
+    }
+    drawn->azimuths[1] = near_azimuth(day, body, drawn->minutes[1]);
+    if (opposite) {
+        const uint64_t i = (uint64_t)between(1, count - 1);
+        drawn->azimuths[i] = (drawn->azimuths[i - 1] + 18000000000) % 36000000000;
+    }
+    drawn->minutes_length = drawn->azimuths_length = count;
+}
+
+/* Too many or too few of one list, or of both; a minute that does not rise, or is none; an azimuth that is none. */
+static void damage_points(proposal_t *drawn) {
+    const uint64_t i = below(drawn->minutes_length);
+    const uint32_t any = (uint32_t)next();
+    switch (below(6)) {
+    case 0: drawn->minutes_length = below(POINTS + 1); break;
+    case 1: drawn->azimuths_length = below(POINTS + 1); break;
+    case 2: drawn->minutes_length = drawn->azimuths_length = below(POINTS + 1); break;
+    case 3: drawn->minutes[i] = any >> below(32); break;
+    case 4: drawn->minutes[i] = i ? drawn->minutes[i - 1] : 1; break;
+    default: drawn->azimuths[i] = outside(0, 35999999999);
+    }
+}
+
+/* A day that is not refused. */
+static void random_good_day(int64_t day[8]) {
+    for (int i = 0; i < 8; i++) {
+        day[i] = between(FIELDS[DAY_AT[i]].lo, FIELDS[DAY_AT[i]].hi);
+    }
+}
+
+/* At a tolerance of half a turn all is accepted: it is 1,440 places, and dear, so most have a minute that is out, soon after the second point. */
+static void random_judge(const int64_t n[12], uint32_t body, int whole) {
+    int64_t day[8];
+    proposal_t drawn;
+    uint64_t tolerance;
+    if (whole) {
+        random_good_day(day), body &= 1;
+        random_points(day, body, 0, &drawn);
+        tolerance = next() >> 1;
+        show_judge(day, body, 18000000000 + (tolerance >> below(63)), &drawn);
+        return;
+    }
+    day_numbers(n, day);
+    random_points(day, body, below(8) == 0, &drawn);
+    if (below(3) == 0) {
+        damage_points(&drawn);
+    }
+    tolerance = (uint64_t)1 << below(24);
+    show_judge(day, body, below(tolerance), &drawn);
+}
+
+/* Likewise a plan is a day, and the verdict on it another. */
+static void random_plan(const int64_t n[12], uint32_t body, int whole, uint64_t tolerance) {
+    int64_t day[8];
+    if (whole) {
+        random_good_day(day), body &= 1;
+    } else {
+        day_numbers(n, day), damage_day(day);
+        tolerance = next();
+        tolerance >>= below(64);
+    }
+    show_plan(day, body, tolerance);
+}
+
 /* Hardly any moment has an eclipse: this one is within two hours and five degrees of one of 003's Table 4. */
 void near_eclipse(int64_t n[12]) {
     __builtin_memcpy(n, table_4[below(7)], sizeof table_4[0]);
@@ -622,6 +761,8 @@ void run_random(uint32_t count, uint64_t s) {
         random_day(n, code(2), i % 50 == 0);
         random_day_azimuths(n, code(2), i % 50 == 25, STEPS[i / 50 % 4]);
         random_strip_write(), random_strip_reads(i), random_strip_azimuth(), random_strip_find();
+        random_judge(n, code(2), i % 100 == 10);
+        random_plan(n, code(2), i % 100 == 60, TOLERANCES[i / 100 % 4]);
         show_eclipse(n);
         near_eclipse(n), damage(n, FIELDS, 12);
         show_eclipse(n);
@@ -728,7 +869,7 @@ static void run_vector(const char *text) {
             offsets[count++] = (uint32_t)decimal();
         }
         show_batch(n, body, offsets, count, azimuths, elevations);
-    } else if (is_kind(text, "day") || is_kind(text, "azimuths")) {
+    } else if (is_kind(text, "day") || is_kind(text, "azimuths") || is_kind(text, "plan")) {
         uint32_t body = *rest == 'm';
         is_kind(rest, body ? "moon" : "sun");
         for (int i = 0; i < 8; i++) {
@@ -736,8 +877,10 @@ static void run_vector(const char *text) {
         }
         if (*text == 'd') {
             show_day(n, body);
-        } else {
+        } else if (*text == 'a') {
             show_day_azimuths(n, body, 10, RADDLEHUE_STRIP_STEPS(10));
+        } else {
+            show_plan(n, body, (uint64_t)decimal());
         }
     } else if (is_kind(text, "eclipse")) {
         twelve(n);

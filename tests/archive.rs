@@ -69,6 +69,26 @@ extern "C" {
         day: i64,
         part: *mut [u64; 3],
     ) -> u32;
+    pub fn raddlehue_judge(
+        date: &[i64; 5],
+        body: u32,
+        point: &[i64; 3],
+        tolerance: u64,
+        minutes: *const u32,
+        minutes_length: u64,
+        azimuths: *const i64,
+        azimuths_length: u64,
+        out_minute: *mut u32,
+    ) -> u32;
+    pub fn raddlehue_plan(
+        date: &[i64; 5],
+        body: u32,
+        point: &[i64; 3],
+        tolerance: u64,
+        minutes: *mut [u32; MINUTES],
+        azimuths: *mut [i64; MINUTES],
+        count: *mut u64,
+    ) -> u32;
     pub fn raddlehue_eclipse(start: &[i64; 9], point: &[i64; 3], eclipse: *mut [i64; 4]) -> u32;
     pub fn raddlehue_covered_share(separation: i64, sun_radius: i64, moon_radius: i64, share: *mut i64) -> u32;
     pub fn raddlehue_middle(a: i64, b: i64, azimuth: *mut i64) -> u32;
@@ -280,6 +300,54 @@ pub fn strip_find(first: &[u8], second: &[u8], date: [i64; 3]) -> Answer<[i64; 3
     let ((first, first_length), (second, second_length)) = (handed(first), handed(second));
     let [year, month, day] = date;
     poisoned(|at| unsafe { raddlehue_strip_find(first, first_length, second, second_length, year, month, day, at.cast()) })
+}
+
+// What a proposal's memory holds: the first minute out of tolerance, which only a refusal by 31 writes.
+pub const UNWRITTEN_MINUTE: u32 = POISON as u32;
+
+// The verdict on two lists, of a day's eight numbers.
+pub fn judge(numbers: &[i64; 8], body: u32, tolerance: u64, minutes: &[u32], azimuths: &[i64]) -> Answer<u32> {
+    let (date, point) = (numbers.first_chunk().unwrap(), numbers.last_chunk().unwrap());
+    let ((minute, minutes_length), (azimuth, azimuths_length)) = (handed(minutes), handed(azimuths));
+    lent(UNWRITTEN_MINUTE, |at| unsafe {
+        raddlehue_judge(date, body, point, tolerance, minute, minutes_length, azimuth, azimuths_length, at)
+    })
+}
+
+// What a plan's memory holds: both buffers, and how many entries of each are the plan's.
+#[derive(Clone, Copy, Debug, PartialEq)]
+pub struct Plan {
+    pub minutes: [u32; MINUTES],
+    pub azimuths: [i64; MINUTES],
+    pub count: i64,
+}
+
+pub const UNWRITTEN_PLAN: Plan = Plan { minutes: [UNWRITTEN_MINUTE; MINUTES], azimuths: [POISON; MINUTES], count: POISON };
+
+impl Plan {
+    // The plan's own entries. Those behind them have to be left alone: no minute and no azimuth is poison.
+    pub fn points(&self) -> (&[u32], &[i64]) {
+        let count = usize::try_from(self.count).expect("a count");
+        let ((minutes, behind), (azimuths, beside)) = (self.minutes.split_at(count), self.azimuths.split_at(count));
+        assert!(behind.iter().all(|minute| *minute == UNWRITTEN_MINUTE), "written behind the {count} minutes of a plan");
+        assert!(beside.iter().all(|azimuth| *azimuth == POISON), "written behind the {count} azimuths of a plan");
+        (minutes, azimuths)
+    }
+}
+
+pub fn plan(numbers: &[i64; 8], body: u32, tolerance: u64) -> Answer<Plan> {
+    let (date, point) = (numbers.first_chunk().unwrap(), numbers.last_chunk().unwrap());
+    let Plan { mut minutes, mut azimuths, .. } = UNWRITTEN_PLAN;
+    let (refusal, count) = lent(POISON, |count| {
+        let (refusal, written) = lent(minutes, |minute| {
+            let (refusal, written) = lent(azimuths, |azimuth| unsafe { raddlehue_plan(date, body, point, tolerance, minute, azimuth, count.cast()) });
+            azimuths = written;
+            refusal
+        });
+        minutes = written;
+        refusal
+    });
+    (refusal, Plan { minutes, azimuths, count })
 }
 
 // Separation, the Sun's radius, the Moon's and the covered share.

@@ -6,22 +6,26 @@
 // none), covered shares of three numbers, the leaves and the sums at an instant; for every fourth an eclipse, half of these near one that was; for every sixteenth a place is
 // moved east or west to where the body stands at that limit, and asked for on both sides, and to where it stands straight overhead or underfoot, if there is such a point then,
 // and asked for there, a unit beside and within a batch; of whole days, which are 1,440 places each, one for every 200 requests, and damaged ones, which cost nothing, for
-// every eighth; with these a strip that is written, read, damaged, looked up and written again (compared_strips.rs).
+// every eighth; with these a strip that is written, read, damaged, looked up and written again (compared_strips.rs), and proposals that are refused; for every 4096th the day's
+// proposals are judged about their tolerance, and plans of it (compared_proposals.rs).
 // A refused call writes nothing: its memory stays poisoned. The first mismatch ends the run with the request that gave it, and so does a refusal that no request
-// of the run was given, a side of that limit, a body without an azimuth, a mark in a batch, a case of the share or a kind of strip that none had (in a run of some thousands
-// all are).
+// of the run was given, a side of that limit, a body without an azimuth, a mark in a batch, a case of the share or a kind of strip or of proposal that none had (in a run of
+// some thousands all are).
 use std::env;
 
 use raddlehue_reference as reference;
 
 mod archive;
 mod compared;
+mod compared_proposals;
 mod compared_strips;
 mod random;
 mod random_days;
 mod random_eclipses;
 mod random_overhead;
+mod random_proposals;
 mod random_strips;
+mod reference_proposals;
 mod reference_strips;
 use archive::*;
 use compared::*;
@@ -158,6 +162,7 @@ struct Tally {
     eclipse_cases: [u64; 4],
     share_cases: [u64; 4],
     strips: compared_strips::Tally,
+    proposals: compared_proposals::Tally,
 }
 
 fn place_of(asked: &Request, seen: &mut Tally) -> Answer<Seen<2>> {
@@ -449,6 +454,7 @@ fn draw(random: &mut Random, turn: u64, seen: &mut Tally) {
     if turn % 8 == 0 {
         day_of(random_days::damaged(random), seen);
         compared_strips::draw(random, turn / 8, &mut seen.strips);
+        compared_proposals::draw(random, turn / 8, &mut seen.proposals);
     }
     if turn % 200 == 0 {
         day_of(random_days::accepted(random), seen);
@@ -476,6 +482,7 @@ fn summary(seen: &Tally) -> Vec<String> {
         all_drawn("shares of three numbers,", &random_eclipses::CASES, &seen.share_cases),
     ];
     lines.extend(compared_strips::summary(&seen.strips));
+    lines.extend(compared_proposals::summary(&seen.proposals));
     lines
 }
 
@@ -502,6 +509,7 @@ fn main() {
         eclipse_cases: [0; 4],
         share_cases: [0; 4],
         strips: compared_strips::NO_TALLY,
+        proposals: compared_proposals::NO_TALLY,
     };
     for turn in 0..count {
         draw(&mut random, turn, &mut seen);

@@ -254,6 +254,46 @@ fn reference_strip_azimuth(call: u64) -> i64 {
     reference::strip_azimuth(black_box(&strip_bytes(call)[STRIP_HEADER..]), call * 37 % MINUTES as u64).map_or(0, i64::from)
 }
 
+// Turning points at every hour, once round the sky.
+struct Hours {
+    minutes: [u32; 25],
+    azimuths: [i64; 25],
+}
+
+const HOURS: Hours = hours();
+
+const fn hours() -> Hours {
+    let mut hours = Hours { minutes: [MINUTES as u32 - 1; 25], azimuths: [0; 25] };
+    let mut hour = 0;
+    while hour < 24 {
+        hours.minutes[hour] = 60 * hour as u32;
+        hours.azimuths[hour] = 1_499_999_999 * hour as i64;
+        hour += 1;
+    }
+    hours
+}
+
+// Within half a turn every minute is accepted, so that every one is worked.
+const HALF_TURN: u64 = 18_000_000_000;
+
+fn judged(body: u32, call: u64) -> i64 {
+    let [year, month, day, .., ut1, delta_t] = numbers(call);
+    let (Hours { minutes, azimuths }, mut out_minute) = (&HOURS, 0);
+    let (date, count) = ([year, month, day, ut1, delta_t], minutes.len() as u64);
+    let refusal =
+        unsafe { raddlehue_judge(&date, body, &POINT, black_box(HALF_TURN), minutes.as_ptr(), count, azimuths.as_ptr(), count, &mut out_minute) };
+    assert_eq!(refusal, 0, "not every minute is worked");
+    i64::from(out_minute)
+}
+
+fn reference_judged(body: u32, call: u64) -> i64 {
+    let [year, month, day, .., ut1, delta_t] = numbers(call);
+    let date = reference::Date { year, month, day, ut1, delta_t };
+    let proposal = reference::Proposal { minutes: &HOURS.minutes, azimuths: &HOURS.azimuths };
+    let verdict = reference::judge(date, reference_body(body), reference_point(POINT), proposal, black_box(HALF_TURN));
+    verdict.map_or_else(|(refusal, minute)| i64::from(refusal) + i64::from(minute), |()| 0)
+}
+
 // A sum's answer, one of its numbers.
 fn sums(export: unsafe extern "C" fn(i64, *mut [i64; 3]) -> u32, call: u64, at: usize) -> i64 {
     let mut sums = [0; 3];
@@ -282,7 +322,7 @@ struct Call {
     reference: fn(u64) -> i64,
 }
 
-const CALLS: [Call; 25] = [
+const CALLS: [Call; 27] = [
     Call { name: "place of the Sun", places: 1, ours: |call| place_of(0, call), reference: |call| reference_place(0, call) },
     Call { name: "place of the Moon", places: 1, ours: |call| place_of(1, call), reference: |call| reference_place(1, call) },
     Call { name: "shown place of the Sun", places: 1, ours: |call| shown_of(0, call), reference: |call| reference_shown(0, call) },
@@ -336,6 +376,8 @@ const CALLS: [Call; 25] = [
     Call { name: "a strip of step 1 read", places: 1, ours: strip_read_of, reference: reference_strip_read },
     Call { name: "a date looked up in two strips of step 1", places: 1, ours: strip_found, reference: reference_strip_found },
     Call { name: "an azimuth of a strip", places: 1, ours: strip_azimuth_of, reference: reference_strip_azimuth },
+    Call { name: "a proposal of 25 points judged, Sun, each minute", places: 1440, ours: |call| judged(0, call), reference: |call| reference_judged(0, call) },
+    Call { name: "a proposal of 25 points judged, Moon, each minute", places: 1440, ours: |call| judged(1, call), reference: |call| reference_judged(1, call) },
     Call {
         name: "sums of the Sun",
         places: 1,

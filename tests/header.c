@@ -50,6 +50,28 @@ static const raddlehue_point_t greenwich = {0, 514769000, 46};
 static const raddlehue_date_t overhead_date = {1900, 1, 1, -9, -79999};
 static const raddlehue_point_t overhead_point = {-1792408461, -230700717, -500};
 
+/* A day of a body at a point, as a proposal is judged by it. */
+typedef struct {
+    raddlehue_date_t date;
+    uint32_t body;
+    raddlehue_point_t point;
+} asked_t;
+
+/* The Sun goes with the clock, the Sun against it, and the Moon. */
+static const asked_t greenwich_sun = {{2009, 6, 21, 0, 659}, RADDLEHUE_SUN, {0, 514769000, 46}};
+static const asked_t hobart_sun = {{2026, 11, 17, 0, 692}, RADDLEHUE_SUN, {1473272000, -428821000, 20}};
+static const asked_t boulder_moon = {{2003, 10, 17, 0, 670}, RADDLEHUE_MOON, {-1051786000, 397424760, 1830}};
+
+/* No azimuth at minute 0 (the day above), and at minute 568 (sun 1956 7 6 9 28 0 0 -4 -21553 391266306 226824578 5078 none, straight overhead). */
+static const asked_t overhead_at_0 = {{1900, 1, 1, -9, -79999}, RADDLEHUE_SUN, {-1792408461, -230700717, -500}};
+static const asked_t overhead_at_568 = {{1956, 7, 6, -4, -21553}, RADDLEHUE_SUN, {391266306, 226824578, 5078}};
+
+/* The equinox in the Gulf of Guinea: at minute 720 the azimuth is 9006292509, at minute 721 it is 27006292509, exactly opposite. */
+static const asked_t opposite_at_noon = {{2026, 3, 20, 0, 691}, RADDLEHUE_SUN, {17322914, -452846, 0}};
+
+/* The solstice near the date line: the first minute and the last are exactly opposite, 27022554181 and 9022554181. */
+static const asked_t opposite_ends = {{2026, 6, 21, 0, 691}, RADDLEHUE_SUN, {-1794024015, 234370340, 0}};
+
 /* A strip of ten minutes, and its header by hand from 02: 592 bytes follow the length. */
 static const raddlehue_strip_t ten_minutes = {RADDLEHUE_AIR_NONE, RADDLEHUE_MOON, 2003, 10, 17, -1051786000, 397424760, 10};
 static const uint8_t ten_minutes_header[RADDLEHUE_STRIP_HEADER] = {
@@ -124,12 +146,14 @@ static int texts(void)
 {
     uint32_t refusal;
     for (refusal = 0; refusal < 300; refusal++)
-        CHECK(known(refusal) == (refusal <= 16 || (20 <= refusal && refusal <= 28) || (101 <= refusal && refusal <= 106)));
+        CHECK(known(refusal) == (refusal <= 16 || (20 <= refusal && refusal <= 31) || (101 <= refusal && refusal <= 107)));
     CHECK(!known(0xffffffffu));
     CHECK(strcmp(raddlehue_refusal_text(RADDLEHUE_ACCEPTED), "accepted") == 0);
     CHECK(strcmp(raddlehue_refusal_text(RADDLEHUE_YEAR), "the year is not 1900 to 2100") == 0);
     CHECK(strcmp(raddlehue_refusal_text(RADDLEHUE_STRIP_STEP), "the step is not 1, 2, 5 or 10 minutes") == 0);
+    CHECK(strcmp(raddlehue_refusal_text(RADDLEHUE_PROPOSAL_OUT), "a minute of the proposal is out of tolerance") == 0);
     CHECK(strcmp(raddlehue_refusal_text(RADDLEHUE_NO_STEP), "the strip has no such step") == 0);
+    CHECK(RADDLEHUE_PROPOSAL_POINTS == 29 && RADDLEHUE_PROPOSAL_OPPOSITE == 30 && RADDLEHUE_PROPOSAL_OUT == 31 && RADDLEHUE_NO_PLAN == 107);
     return 0;
 }
 
@@ -763,6 +787,406 @@ static int largest_strip(void)
     return 0;
 }
 
+/* Turning points, with room for one more than a day has. */
+typedef struct {
+    uint32_t minutes[RADDLEHUE_DAY_MINUTES + 1];
+    int64_t azimuths[RADDLEHUE_DAY_MINUTES + 1];
+    uint64_t count;
+} proposal_t;
+
+/* The body's azimuth at each minute; -1 where there is none. */
+static void work(asked_t asked, int64_t *worked)
+{
+    int64_t minute;
+    for (minute = 0; minute < RADDLEHUE_DAY_MINUTES; minute++) {
+        const raddlehue_place_answer_t place = place_at(asked.date, minute, asked.body, asked.point);
+        worked[minute] = place.has_azimuth ? place.azimuth_if_any_e8 : -1;
+    }
+}
+
+/* The worked azimuths of every so manyth minute and of the last one; a minute without one gets the north. */
+static proposal_t every(uint32_t step, const int64_t *worked)
+{
+    proposal_t proposal;
+    uint32_t minute = 0;
+    proposal.count = 0;
+    for (;;) {
+        proposal.minutes[proposal.count] = minute;
+        proposal.azimuths[proposal.count++] = worked[minute] < 0 ? 0 : worked[minute];
+        if (minute == RADDLEHUE_DAY_MINUTES - 1)
+            return proposal;
+        minute = minute + step < RADDLEHUE_DAY_MINUTES - 1 ? minute + step : RADDLEHUE_DAY_MINUTES - 1;
+    }
+}
+
+static proposal_t without(proposal_t proposal, uint64_t dropped)
+{
+    for (proposal.count--; dropped < proposal.count; dropped++) {
+        proposal.minutes[dropped] = proposal.minutes[dropped + 1];
+        proposal.azimuths[dropped] = proposal.azimuths[dropped + 1];
+    }
+    return proposal;
+}
+
+static raddlehue_judge_answer_t verdict(asked_t asked, uint64_t tolerance, const proposal_t *proposal)
+{
+    return raddlehue_judge_of(
+        asked.date, asked.body, asked.point, tolerance, proposal->minutes, proposal->count, proposal->azimuths, proposal->count);
+}
+
+static int accepts(asked_t asked, uint64_t tolerance, const proposal_t *proposal)
+{
+    const raddlehue_judge_answer_t answer = verdict(asked, tolerance, proposal);
+    return answer.refusal == RADDLEHUE_ACCEPTED && answer.out_minute == 0;
+}
+
+static int is_out(asked_t asked, uint64_t tolerance, const proposal_t *proposal, uint32_t minute)
+{
+    const raddlehue_judge_answer_t answer = verdict(asked, tolerance, proposal);
+    return answer.refusal == RADDLEHUE_PROPOSAL_OUT && answer.out_minute == minute;
+}
+
+/* From one azimuth to another the short way round, below zero against the clock. */
+static int64_t short_way(int64_t from, int64_t to)
+{
+    const int64_t way = to - from;
+    return way > 18000000000 ? way - 36000000000 : way < -18000000000 ? way + 36000000000 : way;
+}
+
+/* 02's rule for a minute between two points: in proportion, floored from the earlier one. (Old C does not say how it divides numbers below zero.) */
+static int64_t value(uint32_t m0, int64_t a0, uint32_t m1, int64_t a1, uint32_t minute)
+{
+    const int64_t product = short_way(a0, a1) * (minute - m0), all = m1 - m0;
+    const int64_t part = product < 0 ? -((-product + all - 1) / all) : product / all;
+    return (a0 + part + 36000000000) % 36000000000;
+}
+
+static int64_t distance(int64_t a, int64_t b)
+{
+    const int64_t way = short_way(a, b);
+    return way < 0 ? -way : way;
+}
+
+/* How far a proposal lies from the worked azimuth at each minute, 0 where there is none; and the farthest of these. */
+static int64_t distances(const proposal_t *proposal, const int64_t *worked, int64_t *apart)
+{
+    int64_t farthest = 0;
+    uint32_t minute, at = 0;
+    for (minute = 0; minute < RADDLEHUE_DAY_MINUTES; minute++) {
+        const uint32_t *m = proposal->minutes + at;
+        const int64_t *a = proposal->azimuths + at;
+        apart[minute] = worked[minute] < 0 ? 0 : distance(value(m[0], a[0], m[1], a[1], minute), worked[minute]);
+        farthest = apart[minute] > farthest ? apart[minute] : farthest;
+        at += minute == m[1];
+    }
+    return farthest;
+}
+
+/* The first minute out of tolerance, or the first of the next day. */
+static uint32_t first_out(const int64_t *apart, uint64_t tolerance)
+{
+    uint32_t minute = 0;
+    while (minute < RADDLEHUE_DAY_MINUTES && (uint64_t)apart[minute] <= tolerance)
+        minute++;
+    return minute;
+}
+
+/* By hand: on the way back, over the north both ways, and at both ends. */
+static int values(void)
+{
+    CHECK(value(0, 13, 2, 10, 1) == 11 && value(0, 10, 2, 13, 1) == 11 && value(0, 13, 2, 10, 0) == 13 && value(0, 13, 2, 10, 2) == 10);
+    CHECK(value(7, 35999999999, 10, 4, 8) == 0 && value(7, 35999999999, 10, 4, 9) == 2);
+    CHECK(value(7, 4, 10, 35999999999, 8) == 2 && value(7, 4, 10, 35999999999, 9) == 0 && value(7, 1, 9, 35999999998, 8) == 35999999999);
+    CHECK(value(0, 0, 1439, 17999999999, 1438) == 17987491312 && value(0, 17999999999, 1439, 0, 1438) == 12508686);
+    return 0;
+}
+
+/* Every minute a point: accepted at tolerance 0. Some of them a unit beside the Moon: accepted at 1, and refused at 0 by the first of them, which is all that is written. */
+static int judge(void)
+{
+    const uint32_t moved[5] = {1439, 1438, 719, 1, 0};
+    int64_t worked[RADDLEHUE_DAY_MINUTES];
+    uint32_t out = 77, at;
+    proposal_t proposal;
+    work(boulder_moon, worked);
+    proposal = every(1, worked);
+    CHECK(proposal.count == RADDLEHUE_DAY_MINUTES && accepts(boulder_moon, 0, &proposal));
+    CHECK(raddlehue_judge(&boulder_moon.date, boulder_moon.body, &boulder_moon.point, 0, proposal.minutes, 1440, proposal.azimuths, 1440, &out) == RADDLEHUE_ACCEPTED);
+    CHECK(out == 77);
+    for (at = 0; at < 5; at++) {
+        const uint32_t minute = moved[at];
+        proposal.azimuths[minute] = (proposal.azimuths[minute] + (at % 2 ? 1 : 35999999999)) % 36000000000;
+        CHECK(is_out(boulder_moon, 0, &proposal, minute));
+    }
+    CHECK(accepts(boulder_moon, 1, &proposal));
+    proposal.azimuths[719] = (worked[719] + 2) % 36000000000;
+    CHECK(raddlehue_judge(&boulder_moon.date, boulder_moon.body, &boulder_moon.point, 1, proposal.minutes, 1440, proposal.azimuths, 1440, &out) == RADDLEHUE_PROPOSAL_OUT);
+    CHECK(out == 719 && accepts(boulder_moon, 2, &proposal) && accepts(boulder_moon, ~(uint64_t)0, &proposal));
+    CHECK(raddlehue_judge_of(boulder_moon.date, RADDLEHUE_SUN, boulder_moon.point, 2, proposal.minutes, 1440, proposal.azimuths, 1440).refusal == RADDLEHUE_PROPOSAL_OUT);
+    return 0;
+}
+
+/* Legs of several lengths, with the clock, against it and over the north: accepted at the tolerance of the farthest minute, and one unit below it that minute is told. */
+static int legs(void)
+{
+    const asked_t *const days[3] = {&greenwich_sun, &hobart_sun, &boulder_moon};
+    const uint32_t steps[6] = {2, 3, 7, 60, 719, 1439};
+    int64_t worked[RADDLEHUE_DAY_MINUTES], apart[RADDLEHUE_DAY_MINUTES];
+    int at, step, part;
+    for (at = 0; at < 3; at++) {
+        work(*days[at], worked);
+        for (step = 0; step < 6; step++) {
+            const proposal_t proposal = every(steps[step], worked);
+            const int64_t farthest = distances(&proposal, worked, apart);
+            CHECK(farthest > 0 && accepts(*days[at], (uint64_t)farthest, &proposal));
+            for (part = 0; part < 3; part++) {
+                const uint64_t tolerance = (uint64_t)(part == 0 ? farthest - 1 : part == 1 ? farthest / 2 : 0);
+                CHECK(is_out(*days[at], tolerance, &proposal, first_out(apart, tolerance)));
+            }
+        }
+    }
+    return 0;
+}
+
+/* A minute without an azimuth is not compared, whatever is proposed for it. */
+static int uncompared(void)
+{
+    int64_t worked[RADDLEHUE_DAY_MINUTES];
+    proposal_t proposal;
+    work(overhead_at_568, worked);
+    proposal = every(1, worked);
+    CHECK(worked[568] == -1 && accepts(overhead_at_568, 0, &proposal));
+    proposal.azimuths[568] = 4500000000;
+    CHECK(accepts(overhead_at_568, 0, &proposal));
+    proposal.azimuths[569] = (worked[569] + 1) % 36000000000;
+    CHECK(is_out(overhead_at_568, 0, &proposal, 569));
+    proposal.azimuths[567] = (worked[567] + 1) % 36000000000;
+    CHECK(is_out(overhead_at_568, 0, &proposal, 567));
+    work(overhead_at_0, worked);
+    proposal = every(1, worked);
+    proposal.azimuths[0] = 1;
+    CHECK(worked[0] == -1 && accepts(overhead_at_0, 0, &proposal));
+    return 0;
+}
+
+/* What is no proposal, one fault at a time, at a tolerance that accepts any. */
+static int refused_points(void)
+{
+    int64_t worked[RADDLEHUE_DAY_MINUTES];
+    const int64_t no_azimuths[4] = {-1, 36000000000, RADDLEHUE_NO_DIRECTION_E8, -RADDLEHUE_NO_DIRECTION_E8 - 1};
+    const uint32_t no_minutes[8][2] = {{0, 1}, {0, 4294967295u}, {1, 0}, {1, 120}, {1, 1440}, {2, 60}, {24, 1438}, {24, 1440}};
+    const uint64_t lengths[8][2] = {{0, 0}, {1, 1}, {0, 25}, {25, 0}, {25, 26}, {26, 25}, {24, 24}, {26, 26}};
+    const raddlehue_date_t date = greenwich_sun.date;
+    const raddlehue_point_t point = greenwich_sun.point;
+    const uint64_t any = ~(uint64_t)0;
+    uint32_t out = 77;
+    proposal_t good, bad;
+    int at;
+    work(greenwich_sun, worked);
+    good = every(60, worked);
+    CHECK(good.count == 25 && accepts(greenwich_sun, any, &good));
+    good.minutes[25] = 1439;
+    good.azimuths[25] = 0;
+    for (at = 0; at < 8; at++) {
+        const uint32_t *minutes = lengths[at][0] ? good.minutes : 0;
+        const int64_t *azimuths = lengths[at][1] ? good.azimuths : 0;
+        CHECK(raddlehue_judge(&date, RADDLEHUE_SUN, &point, any, minutes, lengths[at][0], azimuths, lengths[at][1], &out) == RADDLEHUE_PROPOSAL_POINTS);
+        CHECK(raddlehue_judge_of(date, RADDLEHUE_SUN, point, any, minutes, lengths[at][0], azimuths, lengths[at][1]).refusal == RADDLEHUE_PROPOSAL_POINTS);
+    }
+    CHECK(raddlehue_judge(&date, RADDLEHUE_SUN, &point, any, good.minutes + 24, 1, good.azimuths, 1, &out) == RADDLEHUE_PROPOSAL_POINTS);
+    for (at = 0; at < 8; at++) {
+        bad = good;
+        bad.minutes[no_minutes[at][0]] = no_minutes[at][1];
+        CHECK(verdict(greenwich_sun, any, &bad).refusal == RADDLEHUE_PROPOSAL_POINTS);
+    }
+    for (at = 0; at < 12; at++) {
+        bad = good;
+        bad.azimuths[at / 4 * 12] = no_azimuths[at % 4];
+        CHECK(raddlehue_judge(&date, RADDLEHUE_SUN, &point, any, bad.minutes, 25, bad.azimuths, 25, &out) == RADDLEHUE_PROPOSAL_POINTS);
+    }
+    bad = every(1, worked);
+    bad.minutes[1440] = 1439;
+    bad.azimuths[1440] = bad.azimuths[1439];
+    bad.count = 1441;
+    CHECK(verdict(greenwich_sun, any, &bad).refusal == RADDLEHUE_PROPOSAL_POINTS);
+    CHECK(out == 77);
+    return 0;
+}
+
+/* The later faults first, so that each refusal goes before those that are found already; a minute is told by 31 alone. */
+static int refused_judge(void)
+{
+    asked_t asked = greenwich_sun;
+    int64_t worked[RADDLEHUE_DAY_MINUTES];
+    uint32_t out = 77;
+    proposal_t proposal;
+    raddlehue_judge_answer_t answer;
+    work(greenwich_sun, worked);
+    proposal = every(60, worked);
+    proposal.azimuths[0] = (worked[0] + 1001) % 36000000000;
+    CHECK(raddlehue_judge(&asked.date, asked.body, &asked.point, 1000, proposal.minutes, 25, proposal.azimuths, 25, &out) == RADDLEHUE_PROPOSAL_OUT && out == 0);
+    out = 77;
+    proposal.azimuths[24] = (proposal.azimuths[23] + 18000000000) % 36000000000;
+    CHECK(raddlehue_judge(&asked.date, asked.body, &asked.point, 1000, proposal.minutes, 25, proposal.azimuths, 25, &out) == RADDLEHUE_PROPOSAL_OPPOSITE);
+    CHECK(raddlehue_judge(&asked.date, asked.body, &asked.point, ~(uint64_t)0, proposal.minutes, 25, proposal.azimuths, 25, &out) == RADDLEHUE_PROPOSAL_OPPOSITE);
+    proposal.azimuths[24]++;
+    CHECK(is_out(asked, 1000, &proposal, 0));
+    proposal.azimuths[24]--;
+    proposal.azimuths[1] = 36000000000;
+    CHECK(raddlehue_judge(&asked.date, asked.body, &asked.point, 1000, proposal.minutes, 25, proposal.azimuths, 25, &out) == RADDLEHUE_PROPOSAL_POINTS);
+    asked.point.height_metres = 9001;
+    CHECK(raddlehue_judge(&asked.date, asked.body, &asked.point, 1000, proposal.minutes, 25, proposal.azimuths, 24, &out) == RADDLEHUE_HEIGHT);
+    asked.point.latitude_e7 = 900000001;
+    CHECK(raddlehue_judge(&asked.date, asked.body, &asked.point, 1000, proposal.minutes, 25, proposal.azimuths, 25, &out) == RADDLEHUE_LATITUDE);
+    asked.point.longitude_e7 = -1800000001;
+    CHECK(raddlehue_judge(&asked.date, asked.body, &asked.point, 1000, proposal.minutes, 25, proposal.azimuths, 25, &out) == RADDLEHUE_LONGITUDE);
+    asked.date.delta_t_tenths = 80001;
+    CHECK(raddlehue_judge(&asked.date, asked.body, &asked.point, 1000, proposal.minutes, 25, proposal.azimuths, 25, &out) == RADDLEHUE_DELTA_T);
+    asked.date.ut1_tenths = 10;
+    CHECK(raddlehue_judge(&asked.date, asked.body, &asked.point, 1000, proposal.minutes, 25, proposal.azimuths, 25, &out) == RADDLEHUE_UT1);
+    asked.date.day = 31;
+    CHECK(raddlehue_judge(&asked.date, asked.body, &asked.point, 1000, proposal.minutes, 25, proposal.azimuths, 25, &out) == RADDLEHUE_DAY);
+    asked.date.month = 13;
+    CHECK(raddlehue_judge(&asked.date, asked.body, &asked.point, 1000, proposal.minutes, 25, proposal.azimuths, 25, &out) == RADDLEHUE_MONTH);
+    asked.date.year = 2101;
+    CHECK(raddlehue_judge(&asked.date, asked.body, &asked.point, 1000, proposal.minutes, 25, proposal.azimuths, 25, &out) == RADDLEHUE_YEAR);
+    CHECK(raddlehue_judge(&asked.date, 2, &asked.point, 1000, 0, 0, 0, 0, &out) == RADDLEHUE_UNKNOWN_BODY && out == 77);
+    answer = verdict(asked, 1000, &proposal);
+    CHECK(answer.refusal == RADDLEHUE_YEAR && answer.out_minute == 0);
+    return 0;
+}
+
+/* A plan, with its buffers poisoned before. */
+static uint32_t make_plan(asked_t asked, uint64_t tolerance, proposal_t *plan)
+{
+    int entry;
+    for (entry = 0; entry <= RADDLEHUE_DAY_MINUTES; entry++) {
+        plan->minutes[entry] = 7777;
+        plan->azimuths[entry] = -7;
+    }
+    plan->count = 77;
+    return raddlehue_plan(&asked.date, asked.body, &asked.point, tolerance, plan->minutes, plan->azimuths, &plan->count);
+}
+
+/* From some entry on, all is as it was. */
+static int is_untouched(const proposal_t *plan, uint64_t entry)
+{
+    while (entry <= RADDLEHUE_DAY_MINUTES && plan->minutes[entry] == 7777 && plan->azimuths[entry] == -7)
+        entry++;
+    return entry > RADDLEHUE_DAY_MINUTES;
+}
+
+/* Without this inner point 02 refuses it, and where it is told to look, so does the judge. */
+static int is_needed(asked_t asked, uint64_t tolerance, const proposal_t *plan, uint64_t point, const int64_t *worked, int is_judged)
+{
+    const int are_opposite = distance(plan->azimuths[point - 1], plan->azimuths[point + 1]) == 18000000000;
+    const proposal_t shorter = without(*plan, point);
+    int64_t apart[RADDLEHUE_DAY_MINUTES];
+    uint32_t out;
+    distances(&shorter, worked, apart);
+    out = first_out(apart, tolerance);
+    if (!is_judged)
+        return are_opposite || out < RADDLEHUE_DAY_MINUTES;
+    return are_opposite ? verdict(asked, tolerance, &shorter).refusal == RADDLEHUE_PROPOSAL_OPPOSITE : is_out(asked, tolerance, &shorter, out);
+}
+
+/* Azimuths of the body, from minute 0 to 1439, which the judge accepts and would not if an inner point were dropped; behind them all is as it was. */
+static int is_plan(asked_t asked, uint64_t tolerance, proposal_t *plan)
+{
+    int64_t worked[RADDLEHUE_DAY_MINUTES];
+    uint64_t point, last;
+    work(asked, worked);
+    CHECK(make_plan(asked, tolerance, plan) == RADDLEHUE_ACCEPTED);
+    CHECK(2 <= plan->count && plan->count <= RADDLEHUE_DAY_MINUTES && is_untouched(plan, plan->count));
+    last = plan->count - 1;
+    CHECK(plan->minutes[0] == 0 && plan->minutes[last] == 1439);
+    for (point = 0; point <= last; point++)
+        CHECK(plan->minutes[point] < RADDLEHUE_DAY_MINUTES && plan->azimuths[point] == worked[plan->minutes[point]]);
+    CHECK(accepts(asked, tolerance, plan));
+    for (point = 1; point < last; point++)
+        CHECK(is_needed(asked, tolerance, plan, point, worked, point == 1 || point == last / 2 || point == last - 1));
+    return 0;
+}
+
+/* From every unit counted to none: all minutes are points, or nearly all, and at half a turn none but the first and the last, unless these are opposite. */
+static int plan(void)
+{
+    const asked_t *const days[3] = {&greenwich_sun, &hobart_sun, &boulder_moon};
+    const uint64_t tolerances[7] = {0, 1, 500, 1000000, 100000000, 18000000000, ~(uint64_t)0};
+    proposal_t plan;
+    int at, kind;
+    for (at = 0; at < 3; at++)
+        for (kind = 0; kind < 7; kind++)
+            CHECK(is_plan(*days[at], tolerances[kind], &plan) == 0 && (plan.count > 1400 || kind > 0) && (plan.count == 2) == (kind >= 5));
+    CHECK(is_plan(opposite_ends, ~(uint64_t)0, &plan) == 0 && plan.count > 2 && distance(plan.azimuths[0], plan.azimuths[plan.count - 1]) == 18000000000);
+    return 0;
+}
+
+static int plan_of(void)
+{
+    proposal_t plan, again;
+    raddlehue_plan_answer_t answer;
+    CHECK(make_plan(greenwich_sun, 1000000, &plan) == RADDLEHUE_ACCEPTED);
+    memset(&again, 0x5a, sizeof again);
+    answer = raddlehue_plan_of(greenwich_sun.date, RADDLEHUE_SUN, greenwich_sun.point, 1000000, again.minutes, again.azimuths);
+    CHECK(answer.refusal == RADDLEHUE_ACCEPTED && answer.count == plan.count);
+    CHECK(memcmp(plan.minutes, again.minutes, (size_t)plan.count * sizeof(uint32_t)) == 0);
+    CHECK(memcmp(plan.azimuths, again.azimuths, (size_t)plan.count * sizeof(int64_t)) == 0);
+    return 0;
+}
+
+/* A minute without an azimuth, the first or another, and two that are opposite, at any tolerance; the judge refuses the latter by 30, and by nothing else. */
+static int no_plan(void)
+{
+    const asked_t *const days[3] = {&overhead_at_0, &overhead_at_568, &opposite_at_noon};
+    int64_t worked[RADDLEHUE_DAY_MINUTES];
+    proposal_t plan;
+    int at;
+    for (at = 0; at < 3; at++) {
+        CHECK(make_plan(*days[at], at == 0 ? 0 : ~(uint64_t)0, &plan) == RADDLEHUE_NO_PLAN);
+        CHECK(plan.count == 77 && is_untouched(&plan, 0));
+        CHECK(raddlehue_plan_of(days[at]->date, days[at]->body, days[at]->point, 500, plan.minutes, plan.azimuths).refusal == RADDLEHUE_NO_PLAN);
+        CHECK(raddlehue_plan_of(days[at]->date, days[at]->body, days[at]->point, 500, plan.minutes, plan.azimuths).count == 0);
+        CHECK(is_untouched(&plan, 0));
+    }
+    work(opposite_at_noon, worked);
+    CHECK(worked[720] == 9006292509 && worked[721] == 27006292509);
+    plan = every(1, worked);
+    CHECK(verdict(opposite_at_noon, 0, &plan).refusal == RADDLEHUE_PROPOSAL_OPPOSITE);
+    plan.azimuths[721]++;
+    CHECK(is_out(opposite_at_noon, 0, &plan, 721) && accepts(opposite_at_noon, 1, &plan));
+    return 0;
+}
+
+/* At a day that has no plan, so that each goes before 107. */
+static int refused_plan(void)
+{
+    asked_t asked = overhead_at_0;
+    proposal_t plan;
+    raddlehue_plan_answer_t answer;
+    asked.point.height_metres = -501;
+    CHECK(make_plan(asked, 0, &plan) == RADDLEHUE_HEIGHT && plan.count == 77 && is_untouched(&plan, 0));
+    asked.point.latitude_e7 = -900000001;
+    CHECK(make_plan(asked, 0, &plan) == RADDLEHUE_LATITUDE && plan.count == 77 && is_untouched(&plan, 0));
+    asked.point.longitude_e7 = 1800000001;
+    CHECK(make_plan(asked, 0, &plan) == RADDLEHUE_LONGITUDE && plan.count == 77 && is_untouched(&plan, 0));
+    asked.date.delta_t_tenths = -80001;
+    CHECK(make_plan(asked, 0, &plan) == RADDLEHUE_DELTA_T && plan.count == 77 && is_untouched(&plan, 0));
+    asked.date.ut1_tenths = -10;
+    CHECK(make_plan(asked, 0, &plan) == RADDLEHUE_UT1 && plan.count == 77 && is_untouched(&plan, 0));
+    asked.date.day = 0;
+    CHECK(make_plan(asked, 0, &plan) == RADDLEHUE_DAY && plan.count == 77 && is_untouched(&plan, 0));
+    asked.date.month = 0;
+    CHECK(make_plan(asked, 0, &plan) == RADDLEHUE_MONTH && plan.count == 77 && is_untouched(&plan, 0));
+    asked.date.year = 1899;
+    CHECK(make_plan(asked, 0, &plan) == RADDLEHUE_YEAR && plan.count == 77 && is_untouched(&plan, 0));
+    asked.body = 2;
+    CHECK(make_plan(asked, 0, &plan) == RADDLEHUE_UNKNOWN_BODY && plan.count == 77 && is_untouched(&plan, 0));
+    answer = raddlehue_plan_of(asked.date, 2, asked.point, 0, plan.minutes, plan.azimuths);
+    CHECK(answer.refusal == RADDLEHUE_UNKNOWN_BODY && answer.count == 0 && is_untouched(&plan, 0));
+    return 0;
+}
+
 static int eclipse(void)
 {
     raddlehue_eclipse_t eclipse = {-7, -8, -9, -10};
@@ -962,6 +1386,7 @@ int main(void)
     return constants() || sizes() || texts() || place() || refusals() || shown_place() || no_azimuth() || no_azimuth_shown() || batch() ||
            no_azimuth_in_a_batch() || refused_batch() || empty_batch() || day() || days_without() || refused_day() || day_azimuths() ||
            day_without_an_azimuth() || refused_day_azimuths() || strip_write() || refused_strip_write() || refused_headers() || strip_read() ||
-           strip_lengths() || refused_strip_read() || strip_azimuth() || strip_find() || refused_strip_find() || largest_strip() || eclipse() ||
+           strip_lengths() || refused_strip_read() || strip_azimuth() || strip_find() || refused_strip_find() || largest_strip() || values() || judge() ||
+           legs() || uncompared() || refused_points() || refused_judge() || plan() || plan_of() || no_plan() || refused_plan() || eclipse() ||
            refused_eclipse() || covered_share() || middle() || refraction() || days_and_instants() || moon_and_sun() || earth() || numbers();
 }

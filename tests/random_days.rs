@@ -1,5 +1,7 @@
 // Days drawn at random: accepted ones, at the edges more often than chance, and damaged ones. A day's request is eight numbers: a date's three, UT1 minus UTC and
 // delta-T, a point's three.
+#![allow(dead_code)]
+
 use raddlehue_reference as reference;
 
 use crate::archive::{MOON, THRESHOLD};

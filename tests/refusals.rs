@@ -8,8 +8,17 @@ const LIST: &str = "docs/REFUSALS.md";
 const HEADER: &str = "include/raddlehue.h";
 const CRATE: &str = "bindings/rust/src/refusal.rs";
 const NUMBERS: &str = "crates/calendar/specs/Refusal.antt";
-const BATCH: &str = "crates/batch/specs/Batch.antt";
 const CODES: &str = "crates/boundary/specs/Codes.antt";
+
+// How the definitions begin a clause, and what the list puts before its name.
+const FAMILIES: [(&str, &str); 3] =
+    [("number Of.", ""), ("strip-number Strips.", "STRIP_"), ("proposal-number Proposals.", "PROPOSAL_")];
+
+// The two that carry a number are cases of their answers.
+const CARRYING: [(&str, &str, &str); 2] = [
+    ("crates/batch/specs/Batch.antt", "batch-answer (Late i) = record { refusal = ", "TOO_LATE"),
+    ("crates/proposal/specs/Verdict.antt", "judgement-answer (Out minute) = record { refusal = ", "PROPOSAL_OUT"),
+];
 
 // Where our own numbers begin; the papers' stay below.
 const OURS: u32 = 101;
@@ -115,23 +124,21 @@ fn rust_crate() -> Result<Vec<Refusal>, String> {
     Ok(found)
 }
 
-// The clauses of `number` and of `strip-number`, the batch's late case, and our own codes.
+// The clauses of `number` and of those of strips and of proposals, the batch's late case and the judge's minute that is out, and our own codes.
 fn definitions() -> Result<Vec<Refusal>, String> {
     let mut found = Vec::new();
     for line in read(NUMBERS)?.lines() {
-        for (clause, family) in [("number Of.", ""), ("strip-number Strips.", "STRIP_")] {
+        for (clause, family) in FAMILIES {
             if let Some((name, number)) = line.strip_prefix(clause).and_then(|clause| clause.split_once('=')) {
                 found.push(Refusal::new(number, format!("{family}{}", upper(name.trim())), None)?);
             }
         }
     }
-    let batch = read(BATCH)?;
-    let late = between(&batch, "batch-answer (Late i) = record { refusal = ", ";");
-    found.push(Refusal::new(
-        late.ok_or_else(|| format!("{BATCH} has no number for a late offset"))?,
-        "TOO_LATE".to_string(),
-        None,
-    )?);
+    for (file, clause, name) in CARRYING {
+        let text = read(file)?;
+        let number = between(&text, clause, ";").ok_or_else(|| format!("{file} has no number for {name}"))?;
+        found.push(Refusal::new(number, name.to_string(), None)?);
+    }
     for line in read(CODES)?.lines() {
         if let Some((name, number)) = line.split_once(" = ") {
             if number.parse().is_ok_and(|number: u32| number >= OURS) {
@@ -223,7 +230,7 @@ fn run() -> Result<String, String> {
     distinct(&list)?;
     compare(&list, HEADER, &header()?)?;
     compare(&list, CRATE, &rust_crate()?)?;
-    compare(&list, &format!("{NUMBERS} with {BATCH} and {CODES}"), &definitions()?)?;
+    compare(&list, &format!("{NUMBERS} with {CODES} and the answers that carry a number"), &definitions()?)?;
     let sentences = order(&list)?;
     Ok(format!(
         "{} in one list, the same in C, in Rust and in the definitions, and {sentences} functions in its order",

@@ -30,6 +30,10 @@ static raddlehue_strip_t strip = {RADDLEHUE_AIR_NONE, RADDLEHUE_SUN, 2003, 10, 1
 static uint32_t day_azimuths[RADDLEHUE_STRIP_STEPS(1)], entry_e7;
 static uint8_t bytes[RADDLEHUE_STRIP_BYTES(1)];
 static raddlehue_strip_part_t part;
+/* two points, which at the widest tolerance are accepted, after every minute */
+static const uint32_t ends[2] = {0, 1439};
+static const int64_t norths[2] = {0, 0};
+static uint32_t out_minute;
 static uint64_t count;
 static raddlehue_eclipse_t disks;
 static raddlehue_instant_t moment;
@@ -52,6 +56,8 @@ static void strip_write(void) { kept = raddlehue_strip_write(&strip, day_azimuth
 static void strip_read(void) { kept = raddlehue_strip_read(bytes, sizeof bytes, &strip); }
 static void strip_find(void) { kept = raddlehue_strip_find(bytes, sizeof bytes, bytes, sizeof bytes, 2003, 10, 17, &part); }
 static void strip_azimuth(void) { kept = raddlehue_strip_azimuth(bytes + RADDLEHUE_STRIP_HEADER, sizeof bytes - RADDLEHUE_STRIP_HEADER, 1439, &entry_e7); }
+static void judge(void) { kept = raddlehue_judge(&date, body, &point, UINT64_MAX, ends, 2, norths, 2, &out_minute); }
+static void plan(void) { kept = raddlehue_plan(&date, body, &point, RADDLEHUE_DEGREE_E8 / 100, day_azimuths, curve, &count); }
 static void eclipse(void) { kept = raddlehue_eclipse(&eclipse_start, &eclipse_point, &disks); }
 static void covered_share(void) { kept = raddlehue_covered_share(37487637, 26235977, 28334136, &number); }
 static void middle(void) { kept = raddlehue_middle(35990000000, 10000000, &number); }
@@ -117,6 +123,9 @@ int main(void) {
     row("raddlehue_strip_read", strip_read);
     row("raddlehue_strip_find", strip_find);
     row("raddlehue_strip_azimuth", strip_azimuth);
+    row("raddlehue_judge", judge);
+    row("raddlehue_plan", plan);
+    row_with("raddlehue_plan and the buffers that it is lent", plan, sizeof day_azimuths + sizeof curve);
     row("raddlehue_eclipse", eclipse);
     row("raddlehue_covered_share", covered_share);
     row("raddlehue_middle", middle);

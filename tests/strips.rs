@@ -12,16 +12,13 @@ mod strip_lines;
 mod vector_lines;
 use archive::*;
 use strip_lines::{strip_lines, Said, StripLine};
-use vector_lines::PlaceLine;
+use vector_lines::{absent_minutes, ABSENT};
 
 // How many lines the file has that are read, written and looked up.
 const LINES: [usize; 3] = [123, 50, 23];
 
 const STEPS: [i64; 4] = [1, 2, 5, 10];
 const HEADER_BYTES: usize = 18;
-
-// How many places without an azimuth are at a whole minute.
-const ABSENT: usize = 17;
 
 // What writing and reading the largest strip may take together.
 const LIMIT: Duration = Duration::from_micros(100);
@@ -157,22 +154,14 @@ fn days() {
     }
 }
 
-// At the line's minute there is none, at each step that comes by there.
+// At the minute there is none, at each step that comes by there.
 fn absent(path: &str) {
-    let text = fs::read_to_string(path).unwrap();
-    let lines = text.lines().filter(|line| !line.starts_with('#')).map(PlaceLine::of);
-    let on_the_minute = lines.filter(|line| line.place.1.has_azimuth == 0 && line.air.kind == 0 && line.numbers[5..7] == [0, 0]);
-    let mut count = 0;
-    for line in on_the_minute {
-        let [year, month, day_of_month, hour, minute, _, _, ut1, delta_t, longitude, latitude, height] = line.numbers;
-        let minute = 60 * hour + minute;
-        for step in STEPS.into_iter().filter(|step| minute % step == 0) {
-            let azimuths = day(&[year, month, day_of_month, ut1, delta_t, longitude, latitude, height], line.body, step);
-            assert_eq!(azimuths[(minute / step) as usize], NO_AZIMUTH, "{line:?}");
+    for (numbers, body, minute) in absent_minutes(&fs::read_to_string(path).unwrap()) {
+        for step in STEPS.into_iter().filter(|&step| minute % step as usize == 0) {
+            let azimuths = day(&numbers, body, step);
+            assert_eq!(azimuths[minute / step as usize], NO_AZIMUTH, "{numbers:?}");
         }
-        count += 1;
     }
-    assert_eq!(count, ABSENT);
 }
 
 // ---- time

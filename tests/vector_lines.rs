@@ -86,6 +86,22 @@ impl PlaceLine {
     }
 }
 
+// How many places without an azimuth tests/vectors/overhead.txt has at a whole minute.
+pub const ABSENT: usize = 17;
+
+// Their days: the request of a day, the body, and the minute at which it has none.
+pub fn absent_minutes(text: &str) -> Vec<([i64; 8], u32, usize)> {
+    let lines = text.lines().filter(|line| !line.starts_with('#')).map(PlaceLine::of);
+    let on_the_minute = lines.filter(|line| line.place.1.has_azimuth == 0 && line.air.kind == 0 && line.numbers[5..7] == [0, 0]);
+    let day_of = |line: PlaceLine| {
+        let [year, month, day, hour, minute, _, _, ut1, delta_t, longitude, latitude, height] = line.numbers;
+        ([year, month, day, ut1, delta_t, longitude, latitude, height], line.body, (60 * hour + minute) as usize)
+    };
+    let days: Vec<_> = on_the_minute.map(day_of).collect();
+    assert_eq!(days.len(), ABSENT);
+    days
+}
+
 fn told<const N: usize>((refusal, numbers): Answer<[i64; N]>, azimuth: Option<i64>) -> Answer<Seen<N>> {
     let has_azimuth = if refusal == 0 { u32::from(azimuth.is_some()) } else { Seen::<N>::UNWRITTEN.has_azimuth };
     (refusal, Seen { has_azimuth, numbers })

@@ -4,14 +4,14 @@
 
 use crate::decimal::{self, Misread};
 use crate::delta_t::Scales;
-use crate::failure::{quoted, Failure};
+use crate::failure::Failure;
 use crate::format::{self, angle, format_help, no_azimuth_words, Format, NONE};
+use crate::input::{self, at_line};
 use crate::observer::{self, observer_help, range_words, scales_words, Observer};
 use crate::place::body;
 use crate::sky::{self, Body, Place, SECOND_DECIMALS};
 use crate::time::Moment;
 use crate::words::{Command, Words};
-use std::io::{self, Read};
 
 pub const COMMAND: Command = Command {
     name: "batch",
@@ -59,7 +59,7 @@ fn run(words: &Words) -> Result<String, Failure> {
     let body = body(words.positional(0))?;
     let observer = Observer::read(words)?;
     let start = words.value("--start").map(Moment::read).transpose()?;
-    let lines = lines(&standard_input()?)?;
+    let lines = input::lines(&input::standard_input()?)?;
     let rows = match start {
         Some(start) => rows_after(start, body, observer, lines)?,
         None => rows_at_times(body, observer, lines)?,
@@ -73,29 +73,6 @@ fn run(words: &Words) -> Result<String, Failure> {
 }
 
 // ---- lines
-
-fn standard_input() -> Result<Vec<u8>, Failure> {
-    let mut input = Vec::new();
-    io::stdin().lock().read_to_end(&mut input).map_err(|error| Failure::Broken("standard input cannot be read", error))?;
-    Ok(input)
-}
-
-// Nothing follows a final newline, and a last line may lack its own.
-fn lines(input: &[u8]) -> Result<Vec<String>, Failure> {
-    let whole = input.strip_suffix(b"\n").unwrap_or(input);
-    if input.is_empty() {
-        return Ok(Vec::new());
-    }
-    let read = |(index, line): (usize, &[u8])| match std::str::from_utf8(line) {
-        Ok(line) => Ok(line.to_string()),
-        Err(_) => Err(at_line(index, &String::from_utf8_lossy(line), "it is not text in UTF-8")),
-    };
-    whole.split(|&byte| byte == b'\n').enumerate().map(read).collect()
-}
-
-fn at_line(index: usize, line: &str, sentence: &str) -> Failure {
-    Failure::Line(format!("line {}, {}: {sentence}", index + 1, quoted(line)))
-}
 
 // What is wrong with the line itself is said with the line's number; what is wrong with the observer is left as it is.
 fn of_line(index: usize, line: &str, failure: Failure) -> Failure {
@@ -203,16 +180,6 @@ fn csv(track: &Track) -> String {
 #[cfg(test)]
 mod tests {
     use super::*;
-
-    #[test]
-    fn lines_end_at_newlines() {
-        assert_eq!(lines(b"").unwrap(), Vec::<String>::new());
-        assert_eq!(lines(b"1\n2\n").unwrap(), ["1", "2"]);
-        assert_eq!(lines(b"1\n2").unwrap(), ["1", "2"]);
-        assert_eq!(lines(b"\n").unwrap(), [""]);
-        assert_eq!(lines(b"1\n\n").unwrap(), ["1", ""]);
-        assert!(lines(b"1\n\xff\n").unwrap_err().sentence().unwrap().starts_with("line 2, "));
-    }
 
     #[test]
     fn offsets_are_tenths() {

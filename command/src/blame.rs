@@ -26,6 +26,7 @@ fn at_fault(number: u32, words: &Words) -> Option<String> {
         10 => "--pressure",
         11 => "--temperature",
         25 => "--step",
+        31 => "--tolerance",
         14 | 15 => return Some(words.all_positional().map(quoted).collect::<Vec<_>>().join(" and ")),
         _ => return None,
     };

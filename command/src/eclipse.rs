@@ -52,18 +52,14 @@ twenty seconds, and by more where the Moon only grazes the Sun.
 };
 
 fn run(words: &Words) -> Result<String, Failure> {
-    let format = Format::read(words)?;
-    let is_picture = words.has("--picture");
-    if is_picture && format != Format::Text {
-        return Err(words.usage("of --json, --csv and --picture only one can be given"));
-    }
+    let format = Format::read_or_picture(words)?;
     let observer = Observer::read(words)?;
     let midnight = Moment::midnight(words.positional(0), observer::zone(words)?)?;
     let report = Report::of(observer, midnight)?;
     Ok(match format {
-        Format::Text if is_picture => sheet::drawn(&report, &report.curve()?),
-        Format::Text => forms::text(&report),
-        Format::Json => forms::json(&report),
-        Format::Csv => forms::csv(&report),
+        None => sheet::drawn(&report, &report.curve()?),
+        Some(Format::Text) => forms::text(&report),
+        Some(Format::Json) => forms::json(&report),
+        Some(Format::Csv) => forms::csv(&report),
     })
 }

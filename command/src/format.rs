@@ -38,6 +38,15 @@ impl Format {
             (false, false) => Ok(Format::Text),
         }
     }
+
+    /// Nothing where a picture is asked for.
+    pub fn read_or_picture(words: &Words) -> Result<Option<Format>, Failure> {
+        match (words.has("--picture"), Format::read(words)?) {
+            (false, format) => Ok(Some(format)),
+            (true, Format::Text) => Ok(None),
+            (true, _) => Err(words.usage("of --json, --csv and --picture only one can be given")),
+        }
+    }
 }
 
 // ---- figures
@@ -60,10 +69,14 @@ pub fn shown_angle(units_e8: i64) -> String {
     decimal::written(shown_units(units_e8), SHOWN_DECIMALS)
 }
 
-/// Azimuth and elevation as people need them; an azimuth that is rounded up to a whole turn is 0.
+/// An azimuth as people need it; one that is rounded up to a whole turn is 0.
+pub fn shown_azimuth(azimuth_e8: i64) -> String {
+    decimal::written(shown_units(azimuth_e8) % TURN_SHOWN, SHOWN_DECIMALS)
+}
+
+/// Azimuth and elevation as people need them.
 pub fn shown_place(place: Place) -> (String, String) {
-    let shown = |azimuth_e8| decimal::written(shown_units(azimuth_e8) % TURN_SHOWN, SHOWN_DECIMALS);
-    (place.azimuth_e8.map_or(NONE.to_string(), shown), shown_angle(place.elevation_e8))
+    (place.azimuth_e8.map_or(NONE.to_string(), shown_azimuth), shown_angle(place.elevation_e8))
 }
 
 // ---- what has no azimuth

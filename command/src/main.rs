@@ -14,10 +14,12 @@ mod delta_t;
 mod eclipse;
 mod failure;
 mod format;
+mod input;
 mod middle;
 mod observer;
 mod picture;
 mod place;
+mod proposal;
 mod rise_set;
 mod sky;
 mod strip;
@@ -32,7 +34,7 @@ use std::io::{self, Write};
 use std::process::ExitCode;
 use words::{Command, Words};
 
-const COMMANDS: [&Command; 10] = [
+const COMMANDS: [&Command; 12] = [
     &day::COMMAND,
     &place::COMMAND,
     &batch::COMMAND,
@@ -43,6 +45,8 @@ const COMMANDS: [&Command; 10] = [
     &strip::make::COMMAND,
     &strip::show::COMMAND,
     &strip::find::COMMAND,
+    &proposal::plan::COMMAND,
+    &proposal::judge::COMMAND,
 ];
 
 const ABOUT: &str = "raddlehue: where the Sun and the Moon stand

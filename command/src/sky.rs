@@ -160,6 +160,43 @@ pub fn find_strip<'a>(first: &'a [u8], second: &'a [u8], date: calendar::Date) -
     })
 }
 
+// ---- proposals
+
+/// A turning point of a proposal: a minute of the UTC date, and an azimuth in 1e-8 degree.
+#[derive(Clone, Copy, Debug, PartialEq, Eq)]
+pub struct TurningPoint {
+    pub minute: u32,
+    pub azimuth_e8: i64,
+}
+
+/// Turning points for the UTC date on which the view's moment lies, or none where there is no plan.
+pub fn plan(view: View, body: Body, tolerance_e8: u64) -> Result<Option<Vec<TurningPoint>>, Failure> {
+    let (mut minutes, mut azimuths_e8) = ([0; DAY_MINUTES], [0; DAY_MINUTES]);
+    let count = raddlehue::plan(view.date(), body, view.point(), tolerance_e8, &mut minutes, &mut azimuths_e8)
+        .map_err(|refusal| refused(refusal, view.moment))?;
+    let points = minutes.into_iter().zip(azimuths_e8).map(|(minute, azimuth_e8)| TurningPoint { minute, azimuth_e8 });
+    Ok(count.map(|count| points.take(count).collect()))
+}
+
+/// No plan, in the library's words and by its number.
+pub fn no_plan(why: &str) -> Failure {
+    Failure::Refused(Refusal::NoPlan.number(), format!("{}{why}", numbered(Refusal::NoPlan)))
+}
+
+/// The watch's verdict on turning points for the UTC date on which the view's moment lies.
+pub fn judge(view: View, body: Body, tolerance_e8: u64, points: &[TurningPoint]) -> Result<(), Failure> {
+    let minutes: Vec<u32> = points.iter().map(|point| point.minute).collect();
+    let azimuths_e8: Vec<i64> = points.iter().map(|point| point.azimuth_e8).collect();
+    let verdict = raddlehue::judge(view.date(), body, view.point(), tolerance_e8, &minutes, &azimuths_e8);
+    verdict.map_err(|refusal| match refusal {
+        Refusal::ProposalOut { minute } => {
+            let time = view.moment.in_utc().minutes_later(minute as usize).hour_and_minute();
+            Failure::Refused(refusal.number(), format!("{} (first at {time} UTC, minute {minute})", numbered(refusal)))
+        }
+        _ => refused(refusal, view.moment),
+    })
+}
+
 // ---- refusals
 
 fn numbered(refusal: Refusal) -> String {

@@ -70,6 +70,21 @@ pub fn line(x: f64, foot: f64, words: &str) -> String {
     format!("<text x=\"{x}\" y=\"{foot}\">{words}</text>\n")
 }
 
+/// Points of a line that lie nearer than this to the one before are left out.
+const NEAR: f64 = 4.0;
+
+/// Without the points that are too near to be seen apart, but with both ends.
+pub fn thinned(line: impl ExactSizeIterator<Item = Spot>) -> Vec<Spot> {
+    let (length, mut kept) = (line.len(), Vec::<Spot>::new());
+    for (index, (x, y)) in line.enumerate() {
+        let far = kept.last().is_none_or(|last| (x - last.0).hypot(y - last.1) >= NEAR);
+        if far || index + 1 == length {
+            kept.push((x, y));
+        }
+    }
+    kept
+}
+
 /// A line through points, as a path has it.
 pub fn stroke(spots: impl IntoIterator<Item = Spot>) -> String {
     let mut text = String::new();

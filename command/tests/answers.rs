@@ -206,7 +206,7 @@ fn help_and_version_are_answers() {
     let fits = |page: &str| page.lines().all(|line| line.len() <= 80);
     assert!(fits(&help), "a page fits a terminal");
     let strips = ["strip make", "strip show", "strip find"];
-    for command in ["day", "place", "batch", "middle", "eclipse", "picture", "year"].into_iter().chain(strips) {
+    for command in ["day", "place", "batch", "middle", "eclipse", "picture", "year", "plan", "judge"].into_iter().chain(strips) {
         let name: Vec<&str> = command.split(' ').collect();
         assert!(help.contains(&format!("raddlehue {command} ")), "{command}");
         let page = answer(&[&name[..], &["--help"]].concat(), "");

@@ -29,7 +29,12 @@ fn a_reader_that_left_is_no_success() {
     answer(&[&["strip", "make", "sun", "2003-10-17", "--out", file], &BOULDER[..]].concat(), "");
     unread(&["strip", "show", file]);
     unread(&["--help"]);
-    for words in [&["day", "2003-10-17", "--every", "1", "--json"][..], &["picture", "2003-10-17"], &["eclipse", "2003-10-17"]] {
+    for words in [
+        &["day", "2003-10-17", "--every", "1", "--json"][..],
+        &["picture", "2003-10-17"],
+        &["eclipse", "2003-10-17"],
+        &["plan", "sun", "2003-10-17", "--tolerance", "0", "--csv"],
+    ] {
         unread(&[words, &BOULDER].concat());
     }
 }

@@ -43,6 +43,8 @@ fn dates() {
         refused(&here(&["picture", word]), "", 2, word);
         refused(&here(&["eclipse", word]), "", 2, word);
         refused(&here(&["strip", "make", "sun", word, "--out", "never"]), "", 2, word);
+        refused(&here(&["plan", "sun", word, "--tolerance", "1"]), "", 2, word);
+        refused(&here(&["judge", "sun", word, "--tolerance", "1"]), "", 2, word);
     }
     for word in [
         "2026-08-32", "2026-02-29", "2026-13-01", "2026-00-01", "2026-08-00", "1899-12-31", "2101-01-01", "0000-00-00",
@@ -52,6 +54,8 @@ fn dates() {
         refused(&here(&["picture", word]), "", 1, word);
         refused(&here(&["eclipse", word]), "", 1, word);
         refused(&here(&["strip", "make", "sun", word, "--out", "never"]), "", 1, word);
+        refused(&here(&["plan", "moon", word, "--tolerance", "1"]), "", 1, word);
+        refused(&here(&["judge", "moon", word, "--tolerance", "1"]), "minute,azimuth_degrees\n", 1, word);
     }
     // A zone's day has to lie within the years of UTC as a whole.
     refused(&here(&["eclipse", "1900-01-01", "--zone", "+00:01"]), "", 1, "1900-01-01");
@@ -130,6 +134,8 @@ fn degrees() {
         refused(&["day", "2026-08-09", "--lat", word, "--lon", "5.2"], "", 2, word);
         refused(&["eclipse", "2026-08-12", "--lat", word, "--lon", "5.2"], "", 2, word);
         refused(&["strip", "make", "moon", "2026-08-12", "--lat", word, "--lon", "5.2", "--out", "never"], "", 2, word);
+        refused(&["plan", "moon", "2026-08-12", "--lat", word, "--lon", "5.2", "--tolerance", "1"], "", 2, word);
+        refused(&["judge", "moon", "2026-08-12", "--lat", "5.2", "--lon", word, "--tolerance", "1"], "", 2, word);
         refused(&["place", "sun", "2026-08-09T12:00Z", "--lat", "5.2", "--lon", word], "", 2, word);
     }
     for word in ["5E", "5.2W"] {
@@ -236,6 +242,10 @@ fn flags() {
     refused(&["strip", "show", "never", "--picture"], "", 2, "--picture");
     refused(&["strip", "show", "never", "ever"], "", 2, "ever");
     refused(&["strip", "find", "never", "never", "2026-08-12", "--lat", "5"], "", 2, "--lat");
+    refused(&here(&["plan", "sun", "2026-08-12"]), "", 2, "--tolerance");
+    refused(&here(&["judge", "sun", "2026-08-12", "--tolerance"]), "", 2, "--lat");
+    refused(&here(&["plan", "sun", "2026-08-12", "--tolerance", "1", "--every", "5"]), "", 2, "--every");
+    refused(&here(&["judge", "sun", "2026-08-12", "--tolerance", "1", "--csv"]), "", 2, "--csv");
 }
 
 #[test]
@@ -267,6 +277,10 @@ fn commands() {
         &["strip", "make"],
         &["strip", "show"],
         &["strip", "find", "a", "b"],
+        &["plan"],
+        &["plan", "sun"],
+        &["judge"],
+        &["judge", "moon"],
     ] {
         let output = run(words, b"");
         assert_eq!((output.status.code(), output.stdout.len()), (Some(2), 0), "{words:?}");
@@ -276,6 +290,7 @@ fn commands() {
         &["day", "2026-08-09", "--json", "--csv"][..],
         &["eclipse", "2026-08-12", "--json", "--picture"],
         &["eclipse", "2026-08-12", "--picture", "--csv"],
+        &["plan", "sun", "2026-08-12", "--tolerance", "1", "--picture", "--csv"],
     ] {
         let output = run(&here(words), b"");
         assert_eq!((output.status.code(), output.stdout.len()), (Some(2), 0), "{words:?}");

@@ -267,7 +267,55 @@ function stripFind(given, line) {
   return said;
 }
 
-const LISTS = { batch, day, day_azimuths: dayAzimuths, strip_write: stripWrite, strip_read: stripRead, strip_azimuth: stripAzimuth, strip_find: stripFind };
+// ---- turning points: a line has the minutes and the azimuths, with their numbers before them
+
+// A verdict, which raddlehue.mjs has to give too, with the minute where the refusal is 31 alone.
+function verdict(line, [date, body, place], tolerance, minutes, directions) {
+  put(start, date);
+  put(point, place);
+  const [times, azimuth] = [azimuths + 4 * SIDE, curve + 8 * SIDE];
+  new Uint32Array(raw.memory.buffer, times, minutes.length).set(minutes);
+  put(azimuth, directions);
+  const handed = [minutes.length ? times : 0, BigInt(minutes.length), directions.length ? azimuth : 0, BigInt(directions.length)];
+  const refusal = raw.raddlehue_judge(start, body, point, tolerance, ...handed, lend());
+  const expected = refusal === 31 ? { refusal, out_minute: view().getUint32(lent + 8 * SIDE, true) } : { refusal };
+  const ours = sky.judge(named(DATE, date), body, named(POINT, place), tolerance, minutes, directions);
+  if (JSON.stringify(ours) !== JSON.stringify(expected)) fail(line, `raddlehue.mjs has the verdict ${JSON.stringify(ours)}`);
+  return words(refusal, 1);
+}
+
+const asked = (given) => [given.slice(0, 5).map(big), code(given[5]), given.slice(6, 9).map(big)];
+
+function judge(given, line) {
+  const count = code(given[10]);
+  const [minutes, directions] = [given.slice(11, 11 + count).map(code), given.slice(12 + count).map(big)];
+  if (directions.length !== code(given[11 + count])) fail(line, 'another number of azimuths');
+  return verdict(line, asked(given), BigInt(`0x${given[9]}`), minutes, directions);
+}
+
+// A plan; and where there is one the verdict on it, and on it without the point in its middle.
+function plan(given, line) {
+  const [date, body, place] = asked(given);
+  const tolerance = BigInt(`0x${given[9]}`);
+  put(start, date);
+  put(point, place);
+  poison(azimuths, 4, MINUTES);
+  poison(curve, 8, MINUTES);
+  const refusal = raw.raddlehue_plan(start, body, point, tolerance, azimuths + 4 * SIDE, curve + 8 * SIDE, lend());
+  const said = [...words(refusal, 1), ...longWords(azimuths, 4, MINUTES), ...longWords(curve, 8, MINUTES)];
+  const count = refusal === 0 ? code(said[1]) : 0;
+  const minutes = [...new Uint32Array(raw.memory.buffer, azimuths + 4 * SIDE, count)];
+  const directions = [...new BigInt64Array(raw.memory.buffer, curve + 8 * SIDE, count)];
+  agree(line, refusal, sky.plan(named(DATE, date), body, named(POINT, place), tolerance), (ours) => same(ours.minutes, minutes) && same(ours.azimuths_e8, directions));
+  const middle = Math.floor(count / 2);
+  const inner = (_, i) => i !== middle;
+  if (refusal === 0) said.push('->', ...verdict(line, asked(given), tolerance, minutes, directions));
+  if (count > 2) said.push('->', ...verdict(line, asked(given), tolerance, minutes.filter(inner), directions.filter(inner)));
+  return said;
+}
+
+const LISTS = {
+  batch, day, day_azimuths: dayAzimuths, strip_write: stripWrite, strip_read: stripRead, strip_azimuth: stripAzimuth, strip_find: stripFind, judge, plan };
 
 const lines = [];
 for (const line of readFileSync(0, 'utf8').split('\n').slice(0, -1)) {

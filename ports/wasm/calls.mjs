@@ -1,5 +1,5 @@
-// node ports/wasm/calls.mjs RADDLEHUE.WASM : raddlehue.mjs as a page uses it. Its own example, days by the minute against single places, a body without an azimuth, day strips, eclipses, and
-// what it has to throw at.
+// node ports/wasm/calls.mjs RADDLEHUE.WASM : raddlehue.mjs as a page uses it. Its own example, days by the minute against single places, a body without an azimuth, day strips, short strips,
+// eclipses, and what it has to throw at.
 import assert from 'node:assert/strict';
 import { readFileSync } from 'node:fs';
 import { AIR_NONE, AIR_STANDARD, MOON, NO_AZIMUTH_E7, NO_DIRECTION_E8, SUN, load, measured } from './raddlehue.mjs';
@@ -134,6 +134,63 @@ for (const wrong of [-1, 2 ** 32, 0.5, null, '0', 0n]) assert.throws(() => sky.s
 for (const wrong of [{ ...header, year: undefined }, { ...header, air: 0 }, undefined]) assert.throws(() => sky.strip_write(wrong, azimuths_e7));
 for (const wrong of [-1, 0.5, 2n ** 64n]) assert.throws(() => sky.strip_azimuth(today.azimuths, wrong), RangeError);
 assert.throws(() => sky.day_azimuths(date, MOON, point), TypeError);
+
+// short strips: plans against the places, which are accepted, and refused when they lack an inner point; a coarser one has fewer
+const plans = [0, 500n, 1000000, 2n ** 64n - 1n].map((tolerance) => {
+  const { refusal, minutes, azimuths_e8 } = sky.plan(date, MOON, point, tolerance);
+  assert.ok(refusal === 0 && minutes instanceof Uint32Array && azimuths_e8 instanceof BigInt64Array && minutes.length === azimuths_e8.length);
+  assert.deepEqual([minutes[0], minutes.at(-1)], [0, 1439]);
+  assert.deepEqual(sky.judge(date, MOON, point, tolerance, minutes, azimuths_e8), { refusal: 0 });
+  for (let at = 0; at < minutes.length; at += 37) {
+    const moment = { ...start, hour: Math.floor(minutes[at] / 60), minute: minutes[at] % 60, second: 0 };
+    assert.equal(sky.place(moment, MOON, point).azimuth_e8, azimuths_e8[at]);
+  }
+  for (let at = 1; at < minutes.length - 1; at += 97) {
+    const without = (list) => [...list].filter((_, i) => i !== at);
+    const { refusal: verdict, out_minute, ...none } = sky.judge(date, MOON, point, tolerance, without(minutes), without(azimuths_e8));
+    assert.ok(verdict === 31 && out_minute > minutes[at - 1] && out_minute < minutes[at + 1] && Object.keys(none).length === 0);
+  }
+  return minutes.length;
+});
+assert.ok(plans[0] > plans[1] && plans[1] > plans[2] && plans[2] > plans[3] && plans[3] === 2, String(plans));
+
+// verdicts: a unit beside the Moon, points of any form, and refusals, of which 31 alone has a minute
+const { minutes: times, azimuths_e8: directions } = sky.plan(date, MOON, point, 1000000);
+const ends = [directions[0], directions.at(-1)];
+const beside = (at, units) => directions.map((azimuth, i) => (i === at ? (azimuth + units) % 36000000000n : azimuth));
+assert.deepEqual(sky.judge(date, MOON, point, 1000000n, [...times], [...directions].map(Number)), { refusal: 0 });
+assert.deepEqual(sky.judge(date, MOON, point, 1000000, times, beside(0, 1000001n)), { refusal: 31, out_minute: 0 });
+assert.ok(sky.judge(date, MOON, point, 1000000, times, beside(times.length - 1, 1000001n)).out_minute > times.at(-2));
+assert.deepEqual(sky.judge(date, MOON, point, 2n ** 64n - 1n, [0, 1439], [0, 18000000000]), { refusal: 30 });
+const no_points = [
+  [[], []], [[0], [0]], [[0, 1439], [0]], [[0, 1439], [...ends, 0]], [[0, 1438], ends], [[1, 1439], ends], [[0, 7, 7, 1439], [0, 0, 0, 0]],
+  [[0, 1439], [-1, 0]], [[0, 1439], [0, 36000000000n]], [[0, 1439], [NO_DIRECTION_E8, 0]]];
+for (const [minutes, azimuths] of no_points) {
+  assert.deepEqual(sky.judge(date, MOON, point, 2n ** 64n - 1n, minutes, azimuths), { refusal: 29 });
+}
+assert.deepEqual(sky.judge({ ...date, month: 13 }, MOON, point, 0, [], []), { refusal: 2 });
+assert.deepEqual(sky.judge(date, 2, point, 0, times, directions), { refusal: 101 });
+assert.deepEqual(sky.plan({ ...date, day: 32 }, MOON, point, 0), { refusal: 3 });
+assert.deepEqual(sky.plan(date, 2, point, 0), { refusal: 101 });
+
+// no plan: no azimuth at the first minute, and the Sun at noon of an equinox, exactly opposite a minute later; a minute without one is not compared
+const equinox = { year: 2026, month: 3, day: 20, ut1_tenths: 0, delta_t_tenths: 691 };
+assert.deepEqual(sky.plan(first_day, SUN, under_the_sun, 1000000), { refusal: 107 });
+assert.deepEqual(sky.plan(equinox, SUN, { longitude_e7: 17322914, latitude_e7: -452846, height_metres: 0 }, 2n ** 64n - 1n), { refusal: 107 });
+const each_minute = Array.from({ length: 1440 }, (_, minute) => minute);
+const { azimuths_e8: worked } = sky.batch({ ...start, ...first_day, hour: 0, minute: 0, second: 0 }, SUN, under_the_sun, each_minute.map((minute) => 600 * minute));
+assert.deepEqual(sky.judge(first_day, SUN, under_the_sun, 0, each_minute, worked), { refusal: 29 });
+assert.deepEqual(sky.judge(first_day, SUN, under_the_sun, 0, each_minute, worked.map((azimuth, i) => (i === 0 ? 7n : azimuth))), { refusal: 0 });
+for (const wrong of [-1, 0.5, 2n ** 64n]) {
+  assert.throws(() => sky.plan(date, MOON, point, wrong), RangeError);
+  assert.throws(() => sky.judge(date, MOON, point, wrong, times, directions), RangeError);
+}
+for (const wrong of [-1, 0.5, 2 ** 32, 0n, '0', null]) assert.throws(() => sky.judge(date, MOON, point, 0, [0, wrong], ends), RangeError);
+for (const wrong of [0.5, NaN, 2n ** 63n, -(2n ** 63n) - 1n]) assert.throws(() => sky.judge(date, MOON, point, 0, [0, 1439], [0, wrong]), RangeError);
+for (const wrong of ['0', null, undefined]) assert.throws(() => sky.judge(date, MOON, point, 0, [0, 1439], [0, wrong]), TypeError);
+assert.throws(() => sky.judge(date, MOON, point, 0, times), TypeError);
+assert.throws(() => sky.judge(date, MOON, point, 0), TypeError);
+assert.throws(() => sky.plan(date, MOON, point), TypeError);
 
 // 003, Table 4, its first eclipse; a moment without one; a share by itself, a ring; and refusals
 const pacific = { longitude_e7: 1433617000, latitude_e7: 246117000, height_metres: 0 };

@@ -6,8 +6,8 @@
  *     const point = { longitude_e7: -1051786000, latitude_e7: 397424760, height_metres: 1830 };
  *     sky.place(start, SUN, point)                                           // { refusal: 0, azimuth_e8: 19434024073n, elevation_e8: 3987204605n }
  *
- * A call gives an object: `refusal` is 0 and the answer's names stand beside it, or it is the number of the refusal, and (but for the index of a batch) nothing else.
- * What an answer does not have is missing, neither 0 nor null: the azimuth of a body straight overhead or straight underfoot, a rise or a set that does not come. Names
+ * A call gives an object: `refusal` is 0 and the answer's names stand beside it, or it is the number of the refusal, and nothing else (but for the index of a batch, and the
+ * minute of a proposal). What an answer does not have is missing, neither 0 nor null: the azimuth of a body straight overhead or straight underfoot, a rise or a set that does not come. Names
  * (an azimuth without C's if_any) and numbers are those of include/raddlehue.h and docs/REFUSALS.md; names say their unit (_e7 and _e8 are 1e-7 and 1e-8 degree, _tenths
  * are tenths of a second, _millionths are of the Sun's disk). Whole numbers may be given as Number or BigInt and come back as BigInt, exact; minutes, degrees, mbar and
  * degrees Celsius are Numbers, and so is all that a strip holds. What is no whole number, or none of 64 bits, is a TypeError or a RangeError; every other number may be given, and what
@@ -29,6 +29,12 @@
  *     strip_find(first, second, year, month, day)
  *                                              strip: 1 or 2, whichever of two strips' bytes bears the date, the first if both do; azimuths: a Uint8Array, its azimuth bytes
  *     strip_azimuth(azimuths, step)            azimuth_e7, which may be missing: of a step, counted from 0, in such azimuth bytes
+ *     judge(date, body, point, tolerance_e8, minutes, azimuths_e8)
+ *                                              the watch's verdict on a short strip: turning points at minutes of the date that rise from 0 to 1439 (Uint32Array or list), an azimuth
+ *                                              to each (BigInt64Array or list). Accepted where at every minute of UTC the way between them, the short one round, lies within the tolerance
+ *                                              of the body's azimuth; where the refusal is 31, out_minute: the first that does not
+ *     plan(date, body, point, tolerance_e8)    minutes, a Uint32Array, and azimuths_e8, a BigInt64Array: turning points that judge accepts, and would not if an inner one were dropped. The
+ *                                              refusal is 107 where there is no plan: a minute of the date has no azimuth, or two adjacent ones are exactly opposite
  *     eclipse(start, point)                    separation_e8, of the two centres; sun_radius_e8, moon_radius_e8; share_millionths, of the Sun's disk that the Moon's covers,
  *                                              whether they are up or not
  *     covered_share(separation_e8, sun_radius_e8, moon_radius_e8)
@@ -99,6 +105,11 @@ function codes(list, name) {
   return Uint32Array.from(list, (number, i) => code(number, `${name} ${i}`));
 }
 
+/* A list of whole numbers of 64 bits. */
+function wholes(list, name) {
+  return BigInt64Array.from(list, (number, i) => whole(number, `${name} ${i}`));
+}
+
 /* source: the bytes of raddlehue.wasm, a WebAssembly.Module, or a Response, or a promise of one of these. */
 export async function load(source) {
   let given = await source;
@@ -116,7 +127,7 @@ class Raddlehue {
 
   constructor(instance) {
     this.#raw = instance.exports;
-    // what is handed to a call lies above all that the module has: the start, the point, a place's flag and the answer, then a batch's lists, a day's curve or strips
+    // what is handed to a call lies above all that the module has: the start, the point, a place's flag and the answer, then a batch's lists, a day's curve, strips or turning points
     this.#base = this.#raw.__heap_base.value + 15 & ~15;
     this.#memory(256);
   }
@@ -300,6 +311,35 @@ class Raddlehue {
     const answer = { refusal };
     const azimuth = this.#memory(256).getUint32(this.#answer, true);
     if (refusal === 0 && azimuth !== NO_AZIMUTH_E7) answer.azimuth_e7 = azimuth;
+    return answer;
+  }
+
+  judge(date, body, point, tolerance_e8, minutes, azimuths_e8) {
+    const [times, directions] = [codes(minutes, 'minute'), wholes(azimuths_e8, 'azimuth')];
+    const azimuths = this.#room(8 * directions.length + 4 * times.length);
+    const list = azimuths + 8 * directions.length;
+    const view = this.#memory(256);
+    directions.forEach((azimuth, i) => view.setBigInt64(azimuths + 8 * i, azimuth, true));
+    times.forEach((minute, i) => view.setUint32(list + 4 * i, minute, true));
+    const refusal = this.#raw.raddlehue_judge(
+      this.#put(this.#base, DATE, date), code(body, 'body'), this.#point(point), natural(tolerance_e8, 'tolerance_e8'),
+      list, BigInt(times.length), azimuths, BigInt(directions.length), this.#answer) >>> 0;
+    const answer = { refusal };
+    if (refusal === 31) answer.out_minute = this.#memory(256).getUint32(this.#answer, true);
+    return answer;
+  }
+
+  plan(date, body, point, tolerance_e8) {
+    const azimuths = this.#room(12 * MINUTES);
+    const minutes = azimuths + 8 * MINUTES;
+    const refusal = this.#raw.raddlehue_plan(
+      this.#put(this.#base, DATE, date), code(body, 'body'), this.#point(point), natural(tolerance_e8, 'tolerance_e8'), minutes, azimuths, this.#answer) >>> 0;
+    const answer = { refusal };
+    if (refusal === 0) {
+      const [buffer, count] = [this.#raw.memory.buffer, this.#count()];
+      answer.minutes = new Uint32Array(buffer.slice(minutes, minutes + 4 * count));
+      answer.azimuths_e8 = new BigInt64Array(buffer.slice(azimuths, azimuths + 8 * count));
+    }
     return answer;
   }
 

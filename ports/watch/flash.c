@@ -1,4 +1,5 @@
-/* An image that calls what a watch calls, for its size alone: nothing (EMPTY), all but the strips, or the strips too (STRIPS). */
+/* An image that calls what a watch calls, for its size alone: nothing (EMPTY), all but the strips, or the strips too (STRIPS), then the judge of turning
+ * points (JUDGE), and then the planner (PLAN). */
 #include "raddlehue.h"
 
 static raddlehue_start_t start;
@@ -33,6 +34,12 @@ int main(void) {
     kept = raddlehue_strip_read(second, sizeof second, &strip);
     kept = raddlehue_strip_find(first, sizeof first, second, sizeof second, kept, kept, kept, &part);
     kept = raddlehue_strip_azimuth(second, sizeof second, kept, day_azimuths);
+#endif
+#ifdef JUDGE
+    kept = raddlehue_judge(&date, kept, &point, kept, day_azimuths, kept, curve, kept, &has_azimuth);
+#endif
+#ifdef PLAN
+    kept = raddlehue_plan(&date, kept, &point, kept, day_azimuths, curve, &count);
 #endif
 #else
     (void)start, (void)point, (void)offsets, (void)azimuths, (void)elevations, (void)place, (void)shown, (void)told, (void)degrees, (void)kept;

@@ -41,6 +41,12 @@ static uint8_t first[RADDLEHUE_STRIP_BYTES(1)], second[RADDLEHUE_STRIP_BYTES(1)]
 static raddlehue_strip_part_t part;
 static uint64_t count;
 
+/* A day that is planned, and judged by its plan: its minutes lie where a strip's azimuths do, and their azimuths in the curve. */
+static const raddlehue_date_t planned_date = {2003, 10, 17, 0, 670};
+static const raddlehue_point_t planned_point = {-1051786000, 397424760, 1830};
+enum { TOLERANCE = RADDLEHUE_DEGREE_E8 / 100 };
+static uint32_t out_minute;
+
 static void nothing(void) {}
 static void a_place(void) { kept = raddlehue_place(start, body, point, RADDLEHUE_AIR_MEASURED, pressure, temperature, &has_azimuth, &place); }
 static void a_shown_place(void) {
@@ -48,6 +54,8 @@ static void a_shown_place(void) {
 }
 static void a_batch(void) { kept = raddlehue_batch(start, body, point, offsets, SAMPLES, azimuths, SAMPLES, elevations, SAMPLES, &told); }
 static void a_day(void) { kept = raddlehue_day(&date, body, point, curve, &rise_set); }
+static void a_plan(void) { kept = raddlehue_plan(&planned_date, body, &planned_point, TOLERANCE, day_azimuths, curve, &count); }
+static void a_judge(void) { kept = raddlehue_judge(&planned_date, body, &planned_point, TOLERANCE, day_azimuths, count, curve, count, &out_minute); }
 static void azimuths_of_a_day(void) { kept = raddlehue_day_azimuths(&date, body, point, step, day_azimuths, RADDLEHUE_STRIP_STEPS(1), &count); }
 static void a_strip_write(void) { kept = raddlehue_strip_write(&strip, day_azimuths, RADDLEHUE_STRIP_STEPS(1), first, sizeof first, &count); }
 static void a_strip_read(void) { kept = raddlehue_strip_read(second, sizeof second, &strip); }
@@ -156,6 +164,8 @@ int main(void) {
         row(body ? "shown_place-Moon" : "shown_place-Sun", a_shown_place, REQUESTS, 1);
         row(body ? "batch-Moon" : "batch-Sun", a_batch, REQUESTS, SAMPLES);
         row(body ? "day-Moon" : "day-Sun", a_day, DAYS, MINUTES);
+        row(body ? "plan-Moon" : "plan-Sun", a_plan, DAYS, MINUTES);
+        row(body ? "judge-Moon" : "judge-Sun", a_judge, DAYS, MINUTES);
         step = 10;
         row(body ? "azimuths_10-Moon" : "azimuths_10-Sun", azimuths_of_a_day, DAYS, RADDLEHUE_STRIP_STEPS(10));
         step = 1;

@@ -189,6 +189,140 @@ pub unsafe extern "C" fn raddlehue_strip_find(
     write(part, lent)
 }
 
+// Turning points, as 02, Item 7, has them, with the archive's way to a plan: from each point to the farthest minute that a straight leg reaches within the
+// tolerance, looked for from the far end. The rules stand here, since a plan is only one of many, and reference/ need not have the same.
+mod turning_points {
+    use crate::day::{midnight, Date, MINUTE, MINUTES};
+    use crate::instant::Instant;
+    use crate::numbers::{floor_div, reduce, HALF_TURN, TURN};
+    use crate::place::Observer;
+    use crate::request::{check_point, Body, Point};
+
+    pub struct Worked {
+        midnight: Instant,
+        observer: Observer,
+        body: Body,
+    }
+
+    impl Worked {
+        pub fn new(date: Date, body: Body, point: Point) -> Result<Self, u8> {
+            let midnight = Instant::new(&midnight(&date))?;
+            check_point(&point)?;
+            Ok(Self { midnight, observer: Observer::new(&point), body })
+        }
+
+        fn azimuth(&self, minute: u32) -> Option<i64> {
+            self.observer.look(self.body, &self.midnight.after(MINUTE * minute)).azimuth
+        }
+    }
+
+    fn short_way(from: i64, to: i64) -> i64 {
+        let arc = reduce(to - from);
+        if arc > HALF_TURN {
+            arc - TURN
+        } else {
+            arc
+        }
+    }
+
+    fn are_opposite(a: i64, b: i64) -> bool {
+        short_way(a, b) == HALF_TURN
+    }
+
+    // From one point, a minute and its azimuth, to the next.
+    type Leg = [(u32, i64); 2];
+
+    fn is_out(tolerance: u64, [(m0, a0), (m1, a1)]: Leg, minute: u32, worked: i64) -> bool {
+        let part = floor_div(short_way(a0, a1) * i64::from(minute - m0), i64::from(m1 - m0));
+        short_way(reduce(a0 + part), worked).unsigned_abs() > tolerance
+    }
+
+    fn is_formed(minutes: &[u32], azimuths: &[i64]) -> bool {
+        (2..=MINUTES).contains(&minutes.len())
+            && minutes.len() == azimuths.len()
+            && minutes.first() == Some(&0)
+            && minutes.last() == Some(&1_439)
+            && minutes.windows(2).all(|two| two[0] < two[1])
+            && azimuths.iter().all(|azimuth| (0..TURN).contains(azimuth))
+    }
+
+    // A refusal, and the minute of 31.
+    pub fn judge(day: &Worked, tolerance: u64, minutes: &[u32], azimuths: &[i64]) -> Result<(), (u8, u32)> {
+        if !is_formed(minutes, azimuths) {
+            return Err((29, 0));
+        }
+        if azimuths.windows(2).any(|two| are_opposite(two[0], two[1])) {
+            return Err((30, 0));
+        }
+        let mut at = 0;
+        for minute in 0..MINUTES as u32 {
+            if minutes[at + 1] < minute {
+                at += 1;
+            }
+            let leg = [at, at + 1].map(|at| (minutes[at], azimuths[at]));
+            if day.azimuth(minute).is_some_and(|worked| is_out(tolerance, leg, minute, worked)) {
+                return Err((31, minute));
+            }
+        }
+        Ok(())
+    }
+
+    fn is_good(day: &[i64; MINUTES], tolerance: u64, from: u32, to: u32) -> bool {
+        let leg = [from, to].map(|minute| (minute, day[minute as usize]));
+        !are_opposite(leg[0].1, leg[1].1) && (from + 1..=to).all(|minute| !is_out(tolerance, leg, minute, day[minute as usize]))
+    }
+
+    pub fn plan(worked: &Worked, tolerance: u64, minutes: &mut [u32; MINUTES], azimuths: &mut [i64; MINUTES]) -> Result<u64, u8> {
+        let mut day = [0; MINUTES];
+        for (minute, azimuth) in day.iter_mut().enumerate() {
+            *azimuth = worked.azimuth(minute as u32).ok_or(107)?;
+        }
+        if day.windows(2).any(|two| are_opposite(two[0], two[1])) {
+            return Err(107);
+        }
+        let (mut count, mut at) = (1, 0);
+        (minutes[0], azimuths[0]) = (0, day[0]);
+        while at < 1_439 {
+            at = (at + 1..=1_439).rev().find(|&to| is_good(&day, tolerance, at, to)).unwrap_or(at + 1);
+            (minutes[count], azimuths[count]) = (at, day[at as usize]);
+            count += 1;
+        }
+        Ok(count as u64)
+    }
+}
+
+#[no_mangle]
+pub unsafe extern "C" fn raddlehue_judge(
+    n: &[i64; 5], body: u32, point: &[i64; 3], tolerance: u64, minutes: *const u32, minutes_length: u64, azimuths: *const i64, azimuths_length: u64,
+    lent: &mut u32,
+) -> u32 {
+    if body > 1 {
+        return 101;
+    }
+    let (minutes, azimuths) = unsafe { (list(minutes, minutes_length), list(azimuths, azimuths_length)) };
+    let worked = turning_points::Worked::new(date_of(n), body_of(body), point_of(point)).map_err(|refusal| (refusal, 0));
+    match worked.and_then(|day| turning_points::judge(&day, tolerance, minutes, azimuths)) {
+        Ok(()) => 0,
+        Err((refusal, minute)) => {
+            if refusal == 31 {
+                *lent = minute;
+            }
+            u32::from(refusal)
+        }
+    }
+}
+
+#[no_mangle]
+pub extern "C" fn raddlehue_plan(
+    n: &[i64; 5], body: u32, point: &[i64; 3], tolerance: u64, minutes: &mut [u32; day::MINUTES], azimuths: &mut [i64; day::MINUTES], lent: &mut u64,
+) -> u32 {
+    if body > 1 {
+        return 101;
+    }
+    let worked = turning_points::Worked::new(date_of(n), body_of(body), point_of(point));
+    write(worked.and_then(|day| turning_points::plan(&day, tolerance, minutes, azimuths)), lent)
+}
+
 #[no_mangle]
 pub extern "C" fn raddlehue_eclipse(start: &[i64; 9], point: &[i64; 3], lent: &mut [i64; 4]) -> u32 {
     let found = eclipse(start_of(start), point_of(point));

@@ -80,7 +80,8 @@ const _: () = {
 };
 
 // SAFETY: these are the header's declarations, with a reference for each pointer to one thing or to a whole curve: it is never null nor unaligned, and what it lends to be
-// written overlaps nothing else. Every number may be given, so that only the batch and the strips, which have pointers with lengths, ask their caller for care.
+// written overlaps nothing else. Every number may be given, so that only the batch, the strips and the judge, which have pointers with lengths, ask their caller
+// for care.
 unsafe extern "C" {
     pub safe fn raddlehue_place(
         start: &Start,
@@ -149,6 +150,26 @@ unsafe extern "C" {
         month: i64,
         day: i64,
         part: &mut StripPart,
+    ) -> u32;
+    unsafe fn raddlehue_judge(
+        date: &Date,
+        body: u32,
+        point: &Point,
+        tolerance_e8: u64,
+        minutes: *const u32,
+        minutes_length: u64,
+        azimuths_e8: *const i64,
+        azimuths_length: u64,
+        out_minute: &mut u32,
+    ) -> u32;
+    pub safe fn raddlehue_plan(
+        date: &Date,
+        body: u32,
+        point: &Point,
+        tolerance_e8: u64,
+        minutes: &mut [u32; DAY_MINUTES],
+        azimuths_e8: &mut [i64; DAY_MINUTES],
+        count: &mut u64,
     ) -> u32;
     pub safe fn raddlehue_eclipse(start: &Start, point: &Point, eclipse: &mut Eclipse) -> u32;
     pub safe fn raddlehue_covered_share(
@@ -236,4 +257,16 @@ pub fn strip_find(first: &[u8], second: &[u8], year: i64, month: i64, day: i64, 
     let (first_length, second_length) = (first.len() as u64, second.len() as u64);
     // SAFETY: as in the batch; both strips may be the same memory, since neither is written.
     unsafe { raddlehue_strip_find(first.as_ptr(), first_length, second.as_ptr(), second_length, year, month, day, part) }
+}
+
+/// The verdict on two slices: its refusal, and the first minute out of tolerance.
+pub fn judge(date: &Date, body: u32, point: &Point, tolerance_e8: u64, minutes: &[u32], azimuths_e8: &[i64]) -> (u32, u32) {
+    let (minutes_length, azimuths_length) = (minutes.len() as u64, azimuths_e8.len() as u64);
+    let (minute, azimuth) = (minutes.as_ptr(), azimuths_e8.as_ptr());
+    let mut out_minute = 0;
+    // SAFETY: as in the batch.
+    let refusal = unsafe {
+        raddlehue_judge(date, body, point, tolerance_e8, minute, minutes_length, azimuth, azimuths_length, &mut out_minute)
+    };
+    (refusal, out_minute)
 }

@@ -21,8 +21,8 @@
 //! - **Names say their unit**, as in the C header: `_e7` and `_e8` are 10⁻⁷ and 10⁻⁸ degree, `_e10` is 10⁻¹⁰, `_tenths` are tenths of a second, `_millionths` are of
 //!   the Sun's disk.
 //!
-//! No function keeps state, reads a clock or panics; each takes about 8 KiB of stack at most, [`rise_set`] 11.5 KB more for its curve. Every number may be given, and what
-//! cannot be answered is a [`Refusal`].
+//! No function keeps state, reads a clock or panics; each takes about 8 KiB of stack at most, [`rise_set`] 11.5 KB more for its curve, [`plan`] some 12 KB more for the
+//! day's azimuths. Every number may be given, and what cannot be answered is a [`Refusal`].
 //!
 //! The package needs no `std`. The feature `alloc` adds `places` and `strip_to_vec`, and `std`, which is on unless turned off, that and a [`Start`] from a `SystemTime`.
 //!
@@ -44,6 +44,7 @@ mod clock;
 mod day;
 mod eclipse;
 mod places;
+mod proposal;
 mod refusal;
 mod request;
 mod strip;
@@ -55,6 +56,7 @@ pub use eclipse::{covered_share, eclipse, Eclipse};
 #[cfg(feature = "alloc")]
 pub use places::places;
 pub use places::{direction_in, place, places_into, shown_place, Place, Shown, NO_DIRECTION_E8};
+pub use proposal::{judge, plan};
 pub use refusal::Refusal;
 pub use request::{Air, Body, Date, Point, Start};
 #[cfg(feature = "alloc")]

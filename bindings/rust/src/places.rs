@@ -1,7 +1,7 @@
 //! The place of a body, as it is shown, and many from one start.
 #![forbid(unsafe_code)]
 
-use crate::refusal::{answer, judge};
+use crate::refusal::{accepted, answer};
 use crate::{archive, Air, Body, Point, Refusal, Start, DEGREE_E8};
 #[cfg(feature = "alloc")]
 use alloc::{vec, vec::Vec};
@@ -193,7 +193,7 @@ pub fn places_into(
 ) -> Result<usize, Refusal> {
     let (refusal, told) = archive::batch(&start, body.code(), &point, offsets_tenths, azimuths_e8, elevations_e8);
     // Neither number is above a slice's length, so that a cast loses nothing.
-    match judge(refusal) {
+    match accepted(refusal) {
         Ok(()) => Ok(told.count as usize),
         Err(Refusal::TooLate { .. }) => Err(Refusal::TooLate { index: told.index as usize }),
         Err(other) => Err(other),

@@ -6,7 +6,8 @@ use core::fmt;
 
 /// Why a request is not answered: the first reason that applies, in the order in which they are checked.
 ///
-/// [`Display`](fmt::Display) writes the sentence of the C header and of `docs/REFUSALS.md`, and after it the index of a [`TooLate`](Refusal::TooLate).
+/// [`Display`](fmt::Display) writes the sentence of the C header and of `docs/REFUSALS.md`, and after it the index of a [`TooLate`](Refusal::TooLate) and the minute of a
+/// [`ProposalOut`](Refusal::ProposalOut).
 ///
 /// ```
 /// use raddlehue::{day_count, Refusal};
@@ -83,12 +84,25 @@ pub enum Refusal {
     StripNotFound,
     /// 28: a buffer is too small for a strip, or for the azimuths of one.
     StripBuffer,
+    /// 29: the turning points are fewer than 2 or more than 1,440, their minutes do not rise from 0 to 1439, an azimuth is not 0 to 35,999,999,999 of 10⁻⁸ degree, or one
+    /// list is longer than the other.
+    ProposalPoints,
+    /// 30: two neighbouring turning points lie exactly half a turn apart, so that neither way round is the short one.
+    ProposalOpposite,
+    /// 31: at some minute the proposal's azimuth is further from the body's than the tolerance, the short way round.
+    ProposalOut {
+        /// Which minute is the first such, counted from 00:00 UTC, 0 to 1439.
+        minute: u32,
+    },
+    /// 107: a minute of the day has no azimuth, or two adjacent minutes are exactly opposite; [`plan`](crate::plan) says `None` there, so that no function of this package
+    /// gives it.
+    NoPlan,
     /// A number that this package has no name for: the archive is newer.
     Other(u32),
 }
 
 // All that have a name, in the order of the checks.
-const NAMED: [Refusal; 31] = [
+const NAMED: [Refusal; 35] = [
     Refusal::UnknownBody,
     Refusal::UnknownAir,
     Refusal::NoElevation,
@@ -120,6 +134,10 @@ const NAMED: [Refusal; 31] = [
     Refusal::StripAzimuth,
     Refusal::StripNotFound,
     Refusal::StripBuffer,
+    Refusal::ProposalPoints,
+    Refusal::ProposalOpposite,
+    Refusal::ProposalOut { minute: 0 },
+    Refusal::NoPlan,
 ];
 
 impl Refusal {
@@ -175,6 +193,20 @@ impl Refusal {
             }
             Refusal::StripNotFound => (27, "STRIP_NOT_FOUND", "neither strip bears that date"),
             Refusal::StripBuffer => (28, "STRIP_BUFFER", "the buffer is too small for the strip or its azimuths"),
+            Refusal::ProposalPoints => (
+                29,
+                "PROPOSAL_POINTS",
+                "the turning points are not 2 to 1,440 minutes that rise from 0 to 1439, each with an azimuth from 0 up to but not 360 degrees",
+            ),
+            Refusal::ProposalOpposite => {
+                (30, "PROPOSAL_OPPOSITE", "two neighbouring turning points lie exactly half a turn apart")
+            }
+            Refusal::ProposalOut { .. } => (31, "PROPOSAL_OUT", "a minute of the proposal is out of tolerance"),
+            Refusal::NoPlan => (
+                107,
+                "NO_PLAN",
+                "there is no plan: a minute of the day has no azimuth, or two adjacent minutes are exactly opposite",
+            ),
             Refusal::Other(number) => (number, "UNKNOWN", "unknown refusal"),
         }
     }
@@ -199,7 +231,7 @@ impl Refusal {
         self.row().1
     }
 
-    /// The refusal in words, as C has them; the index of a [`TooLate`](Refusal::TooLate) is not in them.
+    /// The refusal in words, as C has them; the index of a [`TooLate`](Refusal::TooLate) and the minute of a [`ProposalOut`](Refusal::ProposalOut) are not in them.
     ///
     /// ```
     /// assert_eq!(raddlehue::Refusal::Year.sentence(), "the year is not 1900 to 2100");
@@ -214,6 +246,7 @@ impl fmt::Display for Refusal {
     fn fmt(&self, f: &mut fmt::Formatter<'_>) -> fmt::Result {
         match self {
             Refusal::TooLate { index } => write!(f, "{} (index {index})", self.sentence()),
+            Refusal::ProposalOut { minute } => write!(f, "{} (minute {minute})", self.sentence()),
             Refusal::Other(number) => write!(f, "{} {number}", self.sentence()),
             _ => f.pad(self.sentence()),
         }
@@ -223,7 +256,7 @@ impl fmt::Display for Refusal {
 impl Error for Refusal {}
 
 /// The archive's number, where 0 accepts.
-pub(crate) fn judge(number: u32) -> Result<(), Refusal> {
+pub(crate) fn accepted(number: u32) -> Result<(), Refusal> {
     if number == 0 {
         return Ok(());
     }
@@ -233,7 +266,7 @@ pub(crate) fn judge(number: u32) -> Result<(), Refusal> {
 /// What an export writes, begun with zeros, or its refusal.
 pub(crate) fn answer<T: Default>(export: impl FnOnce(&mut T) -> u32) -> Result<T, Refusal> {
     let mut written = T::default();
-    judge(export(&mut written))?;
+    accepted(export(&mut written))?;
     Ok(written)
 }
 
@@ -243,11 +276,11 @@ mod tests {
 
     #[test]
     fn every_number_is_itself_again() {
-        assert_eq!(judge(0), Ok(()));
+        assert_eq!(accepted(0), Ok(()));
         for number in (1..1000).chain([u32::MAX]) {
-            assert_eq!(judge(number).map_err(Refusal::number), Err(number));
+            assert_eq!(accepted(number).map_err(Refusal::number), Err(number));
         }
-        let named = (1..=u8::MAX).filter(|&number| judge(number.into()) != Err(Refusal::Other(number.into())));
+        let named = (1..=u8::MAX).filter(|&number| accepted(number.into()) != Err(Refusal::Other(number.into())));
         assert_eq!(named.count(), NAMED.len());
     }
 }

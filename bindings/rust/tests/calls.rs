@@ -166,6 +166,9 @@ fn the_first_refusal_is_given() {
 fn refusals_are_errors() {
     let late: Box<dyn std::error::Error> = Refusal::TooLate { index: 144 }.into();
     assert_eq!(late.to_string(), "a start plus offset lies after 2100-12-31 23:59:59.9 UTC (index 144)");
+    let out = Refusal::ProposalOut { minute: 1350 };
+    assert_eq!(out.to_string(), "a minute of the proposal is out of tolerance (minute 1350)");
+    assert_eq!((out.number(), out.sentence()), (31, "a minute of the proposal is out of tolerance"));
     let year = Refusal::Year;
     assert_eq!((year.number(), year.name(), year.sentence()), (1, "YEAR", "the year is not 1900 to 2100"));
     assert_eq!(year.to_string(), year.sentence());
@@ -625,6 +628,226 @@ fn a_lookup_judges_both_strips() {
     }
     assert_eq!(find_strip(&[], &good, 2003, 10, 17), Err(Refusal::StripLength));
     assert_eq!(find_strip(&good, &[], 2003, 10, 17), Err(Refusal::StripLength));
+}
+
+// ---- proposals
+
+const HALF_TURN: i64 = 180 * DEGREE_E8;
+const DUNEDIN: Point = Point { longitude_e7: 1_705_000_000, latitude_e7: -455_000_000, height_metres: 0 };
+/// Over which the Sun stands straight at 22:30 UTC.
+const OAHU_DATE: Date = Date::utc(2027, 5, 28).delta_t_tenths(688);
+const OAHU: Point = Point { longitude_e7: -1_581_709_847, latitude_e7: 215_390_192, height_metres: 0 };
+
+struct Proposal {
+    minutes: Vec<u32>,
+    azimuths_e8: Vec<i64>,
+}
+
+impl Proposal {
+    fn planned(date: Date, body: Body, point: Point, tolerance_e8: u64) -> Option<Proposal> {
+        let (mut minutes, mut azimuths_e8) = ([7; DAY_MINUTES], [-8; DAY_MINUTES]);
+        let count = plan(date, body, point, tolerance_e8, &mut minutes, &mut azimuths_e8).unwrap();
+        let written = count.unwrap_or(0);
+        assert!(minutes[written..].iter().all(|&minute| minute == 7) && azimuths_e8[written..].iter().all(|&units| units == -8));
+        count.map(|_| Proposal { minutes: minutes[..written].to_vec(), azimuths_e8: azimuths_e8[..written].to_vec() })
+    }
+
+    fn verdict(&self, date: Date, body: Body, point: Point, tolerance_e8: u64) -> Result<(), Refusal> {
+        judge(date, body, point, tolerance_e8, &self.minutes, &self.azimuths_e8)
+    }
+
+    fn without(&self, index: usize) -> Proposal {
+        let (mut minutes, mut azimuths_e8) = (self.minutes.clone(), self.azimuths_e8.clone());
+        minutes.remove(index);
+        azimuths_e8.remove(index);
+        Proposal { minutes, azimuths_e8 }
+    }
+
+    // At each minute, from 02's own words.
+    fn values(&self) -> Vec<i64> {
+        let points = || self.minutes.iter().map(|&minute| i64::from(minute)).zip(self.azimuths_e8.iter().copied());
+        let mut values = vec![self.azimuths_e8[0]];
+        for ((m0, a0), (m1, a1)) in points().zip(points().skip(1)) {
+            let value = |minute: i64| (a0 + (way(a0, a1) * (minute - m0)).div_euclid(m1 - m0)).rem_euclid(2 * HALF_TURN);
+            values.extend((m0 + 1..=m1).map(value));
+        }
+        values
+    }
+}
+
+// The short way round, below zero where it leads back.
+fn way(from_e8: i64, to_e8: i64) -> i64 {
+    (to_e8 - from_e8 + HALF_TURN).rem_euclid(2 * HALF_TURN) - HALF_TURN
+}
+
+fn azimuths_of_day(date: Date, body: Body, point: Point) -> Vec<Option<i64>> {
+    let Date { year, month, day, ut1_tenths, delta_t_tenths } = date;
+    let midnight = Start::utc(year, month, day, 0, 0, 0).ut1_tenths(ut1_tenths).delta_t_tenths(delta_t_tenths);
+    let offsets: Vec<u32> = (0..1440).map(|minute| 600 * minute).collect();
+    places(midnight, body, point, &offsets).unwrap().into_iter().map(|place| place.azimuth_e8).collect()
+}
+
+// The azimuth goes forward, backward, once round in a day, and both ways.
+fn some_days() -> [(Date, Body, Point); 4] {
+    let tropics = Point { longitude_e7: 0, latitude_e7: 100_000_000, height_metres: 0 };
+    [
+        (STRIP_DATE, Body::Sun, POINT),
+        (Date::utc(2026, 11, 15).ut1_tenths(-3).delta_t_tenths(691), Body::Sun, DUNEDIN),
+        (DATE, Body::Sun, TROMSO),
+        (DATE, Body::Moon, tropics),
+    ]
+}
+
+#[test]
+fn a_plan_is_accepted_and_no_point_is_spare() {
+    for (date, body, point) in some_days() {
+        let azimuths = azimuths_of_day(date, body, point);
+        for tolerance in [0, 1, 500, 1_000_000, 300_000_000, HALF_TURN as u64, u64::MAX] {
+            let proposal = Proposal::planned(date, body, point, tolerance).unwrap();
+            let count = proposal.minutes.len();
+            assert!((2..=DAY_MINUTES).contains(&count), "{tolerance}");
+            assert_eq!((proposal.minutes[0], proposal.minutes[count - 1]), (0, 1439));
+            let points = proposal.minutes.iter().zip(&proposal.azimuths_e8);
+            assert!(points.into_iter().all(|(&minute, &azimuth)| azimuths[minute as usize] == Some(azimuth)));
+            assert_eq!(proposal.verdict(date, body, point, tolerance), Ok(()));
+            for inner in (1..count - 1).step_by(1 + count / 16) {
+                let shorter = proposal.without(inner).verdict(date, body, point, tolerance);
+                assert!(
+                    matches!(shorter, Err(Refusal::ProposalOut { .. } | Refusal::ProposalOpposite)),
+                    "{tolerance} {inner}: {shorter:?}"
+                );
+            }
+        }
+    }
+}
+
+// The first minute is named at which the distance is the greatest, where the tolerance is a unit below that. Points of every 45 minutes have a leg over the north.
+#[test]
+fn a_tolerance_may_be_met_but_not_passed() {
+    for (date, body, point) in some_days() {
+        let azimuths: Vec<i64> = azimuths_of_day(date, body, point).into_iter().map(Option::unwrap).collect();
+        let minutes: Vec<u32> = (0..1439).step_by(45).chain([1439]).collect();
+        let azimuths_e8 = minutes.iter().map(|&minute| azimuths[minute as usize]).collect();
+        let planned = Proposal::planned(date, body, point, 40_000_000).unwrap();
+        for proposal in [planned, Proposal { minutes, azimuths_e8 }] {
+            let values = proposal.values();
+            let distances: Vec<u64> = values.iter().zip(&azimuths).map(|(&value, &sky)| way(value, sky).unsigned_abs()).collect();
+            let most = *distances.iter().max().unwrap();
+            assert!((1..9_000_000_000).contains(&most), "{most}");
+            assert_eq!(proposal.verdict(date, body, point, most), Ok(()));
+            let minute = distances.iter().position(|&distance| distance == most).unwrap() as u32;
+            assert_eq!(proposal.verdict(date, body, point, most - 1), Err(Refusal::ProposalOut { minute }));
+            let first = distances.iter().position(|&distance| distance > 0).unwrap() as u32;
+            assert_eq!(proposal.verdict(date, body, point, 0), Err(Refusal::ProposalOut { minute: first }));
+        }
+    }
+}
+
+#[test]
+fn every_minute_is_compared() {
+    let (date, body, point) = (STRIP_DATE, Body::Sun, POINT);
+    let azimuths_e8: Vec<i64> = azimuths_of_day(date, body, point).into_iter().map(Option::unwrap).collect();
+    let whole = Proposal { minutes: (0..1440).collect(), azimuths_e8 };
+    assert_eq!(whole.verdict(date, body, point, 0), Ok(()));
+    for minute in [0, 1, 719, 1438, 1439] {
+        let mut other = Proposal { minutes: whole.minutes.clone(), azimuths_e8: whole.azimuths_e8.clone() };
+        other.azimuths_e8[minute as usize] += 1;
+        assert_eq!(other.verdict(date, body, point, 0), Err(Refusal::ProposalOut { minute }));
+        assert_eq!(other.verdict(date, body, point, 1), Ok(()));
+    }
+    // On either side of the north, which this Sun passes.
+    for degrees in [5, -5] {
+        let turned = |&azimuth: &i64| (azimuth + degrees * DEGREE_E8).rem_euclid(2 * HALF_TURN);
+        let azimuths_e8 = whole.azimuths_e8.iter().map(turned).collect();
+        let beside = Proposal { minutes: whole.minutes.clone(), azimuths_e8 };
+        assert_eq!(beside.verdict(date, body, point, 500_000_000), Ok(()));
+        assert_eq!(beside.verdict(date, body, point, 499_999_999), Err(Refusal::ProposalOut { minute: 0 }));
+    }
+}
+
+#[test]
+fn no_plan_is_an_answer() {
+    for tolerance in [0, 500, u64::MAX] {
+        assert!(Proposal::planned(OAHU_DATE, Body::Sun, OAHU, tolerance).is_none());
+        assert!(Proposal::planned(OAHU_DATE, Body::Moon, OAHU, tolerance).is_some());
+    }
+}
+
+// Its value there may be any.
+#[test]
+fn a_minute_without_an_azimuth_is_not_compared() {
+    let azimuths = azimuths_of_day(OAHU_DATE, Body::Sun, OAHU);
+    assert_eq!((azimuths[1350], azimuths.iter().flatten().count()), (None, DAY_MINUTES - 1));
+    let minutes: Vec<u32> = (0..1440).collect();
+    for anything in [0, 9_000_000_000, 35_999_999_999] {
+        let azimuths_e8: Vec<i64> = azimuths.iter().map(|azimuth| azimuth.unwrap_or(anything)).collect();
+        let proposal = Proposal { minutes: minutes.clone(), azimuths_e8 };
+        assert_eq!(proposal.verdict(OAHU_DATE, Body::Sun, OAHU, 0), Ok(()), "{anything}");
+        let mut other = proposal;
+        other.azimuths_e8[1351] = (other.azimuths_e8[1351] + 1) % (2 * HALF_TURN);
+        assert_eq!(other.verdict(OAHU_DATE, Body::Sun, OAHU, 0), Err(Refusal::ProposalOut { minute: 1351 }));
+    }
+}
+
+#[test]
+fn points_that_are_no_proposal() {
+    let verdict = |minutes: &[u32], azimuths_e8: &[i64]| judge(STRIP_DATE, Body::Sun, POINT, u64::MAX, minutes, azimuths_e8);
+    assert_eq!(verdict(&[0, 1439], &[0, 35_999_999_999]), Ok(()));
+    let lists: [(&[u32], &[i64]); 12] = [
+        (&[], &[]),
+        (&[0], &[0]),
+        (&[1439], &[0]),
+        (&[0, 1439], &[0]),
+        (&[0], &[0, 1]),
+        (&[], &[0, 1]),
+        (&[1, 1439], &[0, 1]),
+        (&[0, 1438], &[0, 1]),
+        (&[0, 1440], &[0, 1]),
+        (&[0, 7, 7, 1439], &[0, 1, 2, 3]),
+        (&[0, 8, 7, 1439], &[0, 1, 2, 3]),
+        (&[0, u32::MAX, 1439], &[0, 1, 2]),
+    ];
+    for (minutes, azimuths_e8) in lists {
+        assert_eq!(verdict(minutes, azimuths_e8), Err(Refusal::ProposalPoints), "{minutes:?} {azimuths_e8:?}");
+    }
+    for azimuth in [i64::MIN, -1, 36_000_000_000, NO_DIRECTION_E8] {
+        for azimuths_e8 in [[azimuth, 0, 1], [0, azimuth, 1], [0, 1, azimuth]] {
+            assert_eq!(verdict(&[0, 700, 1439], &azimuths_e8), Err(Refusal::ProposalPoints), "{azimuths_e8:?}");
+        }
+    }
+    let more: Vec<u32> = (0..1440).chain([1439]).collect();
+    assert_eq!(verdict(&more, &[0; 1441]), Err(Refusal::ProposalPoints));
+    assert_eq!(verdict(&more[..1440], &[0; 1440]), Ok(()));
+    // Opposite neighbours are refused at any tolerance, and before any minute that is out of it.
+    for azimuths_e8 in [[0, HALF_TURN, 1], [1, 0, HALF_TURN], [35_999_999_999, HALF_TURN - 1, 0]] {
+        assert_eq!(verdict(&[0, 700, 1439], &azimuths_e8), Err(Refusal::ProposalOpposite), "{azimuths_e8:?}");
+        let strict = judge(STRIP_DATE, Body::Sun, POINT, 0, &[0, 700, 1439], &azimuths_e8);
+        assert_eq!(strict, Err(Refusal::ProposalOpposite));
+    }
+    assert_eq!(verdict(&[0, 700, 1438], &[0, HALF_TURN, 1]), Err(Refusal::ProposalPoints));
+}
+
+#[test]
+fn a_refused_plan_keeps_its_buffers() {
+    let requests = [
+        (Date { year: 2101, month: 0, ..STRIP_DATE }, POINT, Refusal::Year),
+        (Date { month: 13, day: 0, ..STRIP_DATE }, POINT, Refusal::Month),
+        (Date { day: 32, ..STRIP_DATE.ut1_tenths(10) }, POINT, Refusal::Day),
+        (STRIP_DATE.ut1_tenths(10).delta_t_tenths(-80_001), POINT, Refusal::Ut1),
+        (STRIP_DATE.delta_t_tenths(-80_001), Point { longitude_e7: i64::MAX, ..POINT }, Refusal::DeltaT),
+        (STRIP_DATE, Point { longitude_e7: 1_800_000_001, latitude_e7: i64::MIN, ..POINT }, Refusal::Longitude),
+        (STRIP_DATE, Point { latitude_e7: 900_000_001, height_metres: i64::MAX, ..POINT }, Refusal::Latitude),
+        (STRIP_DATE, Point { height_metres: 9_001, ..POINT }, Refusal::Height),
+    ];
+    for (date, point, refusal) in requests {
+        for body in [Body::Sun, Body::Moon] {
+            let (mut minutes, mut azimuths_e8) = ([7; DAY_MINUTES], [-8; DAY_MINUTES]);
+            assert_eq!(plan(date, body, point, 0, &mut minutes, &mut azimuths_e8), Err(refusal));
+            assert_eq!((minutes, azimuths_e8), ([7; DAY_MINUTES], [-8; DAY_MINUTES]));
+            // The request is judged before its points are.
+            assert_eq!(judge(date, body, point, 0, &[], &[1]), Err(refusal));
+        }
+    }
 }
 
 // ---- eclipses

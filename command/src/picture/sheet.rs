@@ -7,14 +7,11 @@ use super::style;
 use super::track::Track;
 use crate::format::body_name;
 use crate::sky::Body;
-use crate::svg::{self, stroke, text, Spot, FIRST_LINE, INDENT, LINE, MARGIN, TO_FOOT, WIDTH};
+use crate::svg::{self, stroke, text, thinned, Spot, FIRST_LINE, INDENT, LINE, MARGIN, TO_FOOT, WIDTH};
 use std::fmt::Write;
 
 const COMPASS: [&str; 8] = ["N", "NE", "E", "SE", "S", "SW", "W", "NW"];
 const ELEVATIONS: [f64; 3] = [0.0, 30.0, 60.0];
-
-/// Points of a line that lie nearer than this to the one before are left out.
-const NEAR: f64 = 4.0;
 
 pub fn drawn(story: &Story, centre: f64, tracks: &[Track; 2]) -> String {
     let paths: String = tracks.iter().map(path).collect();
@@ -64,7 +61,7 @@ fn elevation_labels() -> Vec<(Spot, String)> {
 // ---- the paths
 
 fn path(track: &Track) -> String {
-    let lines: String = track.lines.iter().map(|line| stroke(thinned(line))).collect();
+    let lines: String = track.lines.iter().map(|line| stroke(thinned(line.iter().map(|&dot| spot(dot))))).collect();
     let mut svg = String::new();
     if !lines.is_empty() {
         let _ = writeln!(svg, "<path class=\"{} path\" d=\"{lines}\"/>", class_of(track.body));
@@ -78,18 +75,6 @@ fn path(track: &Track) -> String {
 // The hours of the day on the sheet, but for the second midnight.
 fn marked(track: &Track) -> impl Iterator<Item = (usize, Dot)> + '_ {
     track.hours.iter().copied().enumerate().take(24).filter(|(_, dot)| dot.up >= LOWEST)
-}
-
-// Without the points that are too near to be seen apart, but with both ends.
-fn thinned(line: &[Dot]) -> Vec<Spot> {
-    let mut kept: Vec<Spot> = Vec::new();
-    for (index, (x, y)) in line.iter().map(|&dot| spot(dot)).enumerate() {
-        let far = kept.last().is_none_or(|last| (x - last.0).hypot(y - last.1) >= NEAR);
-        if far || index + 1 == line.len() {
-            kept.push((x, y));
-        }
-    }
-    kept
 }
 
 fn mark(body: Body, (x, y): Spot) -> String {

@@ -87,6 +87,7 @@ mod tests {
             reaches(&[text, sun, moon], &[page, sky, ground], 4.5);
             reaches(&[grid, horizon], &[page, sky, ground], 3.0);
             reaches(&[horizon, sun, moon], &[page, light, dark], 3.0);
+            reaches(&[text], &[light], 3.0);
         }
     }
 }

@@ -34,6 +34,10 @@ no-disks = 105
 abbrev pub no-step : ℕ
 no-step = 106
 
+-- there is no plan: an answer of the planner, and no refusal of 02's
+abbrev pub no-plan : ℕ
+no-plan = 107
+
 -- the codes of a body
 abbrev pub sun : ℕ
 sun = 0

@@ -21,6 +21,9 @@ pub const NO_DISKS: u32 = 105;
 
 pub const NO_STEP: u32 = 106;
 
+// The planner's answer that there is no plan.
+pub const NO_PLAN: u32 = 107;
+
 // The codes of a body.
 const SUN: u32 = 0;
 

@@ -6,7 +6,9 @@ use Prim.Native.Nat.{_<_, suc, ℕ}
 use native.Mathlib.Omega.{arith}
 use lib.Dec.{eqb, lit<, ltb}
 use borrow.Author.Tests.{eqb-false, eqb-true, ne-eqb}
-use Rattle.calendar.specs.Refusal.{OneAnswer, VerdictsTold, _else_, _unless_, first, number, strip-number}
+use Rattle.calendar.specs.Refusal.{OneAnswer, VerdictsTold, _else_, _unless_, first, number, proposal-number, strip-number}
+use Rattle.calendar.specs.declared.refusal.ProposalRefusal.{ProposalRefusal}
+use Rattle.calendar.specs.declared.refusal.ProposalRefusal.the-variants as Proposals
 use Rattle.calendar.specs.declared.refusal.Refusal.{Refusal}
 use Rattle.calendar.specs.declared.refusal.Refusal.the-variants as Of
 use Rattle.calendar.specs.declared.refusal.StripRefusal.{StripRefusal}
@@ -33,12 +35,20 @@ strip-above Strips.Azimuth = lit< tt
 strip-above Strips.NotFound = lit< tt
 strip-above Strips.Buffer = lit< tt
 
+proposal-numbered : ℕ → ProposalRefusal
+proposal-numbered n = cond (eqb n 29) Proposals.Points Proposals.Opposite
+
+proposal-above : (refusal : ProposalRefusal) → 28 < proposal-number refusal
+proposal-above Proposals.Points = lit< tt
+proposal-above Proposals.Opposite = lit< tt
+
 -- the refusal that has a number
 pub numbered : ℕ → Refusal
 numbered n =
     cond (eqb n 1) Of.Year (cond (eqb n 2) Of.Month (cond (eqb n 3) Of.Day (cond (eqb n 4) Of.Clock (cond (eqb n 5) Of.Ut1 (cond (eqb n 6) Of.DeltaT
     (cond (eqb n 7) Of.Longitude (cond (eqb n 8) Of.Latitude (cond (eqb n 9) Of.Height (cond (eqb n 10) Of.Pressure (cond (eqb n 11) Of.Temperature
-    (cond (eqb n 12) Of.ShortBuffer (cond (eqb n 14) Of.Opposite (cond (eqb n 15) Of.NotReduced (cond (ltb 19 n) (Of.Strip (strip-numbered n)) Of.NotALine))))))))))))))
+    (cond (eqb n 12) Of.ShortBuffer (cond (eqb n 14) Of.Opposite (cond (eqb n 15) Of.NotReduced (cond (ltb 28 n) (Of.Proposal (proposal-numbered n))
+    (cond (ltb 19 n) (Of.Strip (strip-numbered n)) Of.NotALine)))))))))))))))
 
 read-strip : (refusal : StripRefusal) → numbered (strip-number refusal) ≡ Of.Strip refusal
 unfolding numbered strip-numbered
@@ -51,6 +61,11 @@ read-strip Strips.Step = refl
 read-strip Strips.Azimuth = refl
 read-strip Strips.NotFound = refl
 read-strip Strips.Buffer = refl
+
+read-proposal : (refusal : ProposalRefusal) → numbered (proposal-number refusal) ≡ Of.Proposal refusal
+unfolding numbered proposal-numbered
+read-proposal Proposals.Points = refl
+read-proposal Proposals.Opposite = refl
 
 pub read-back : (refusal : Refusal) → numbered (number refusal) ≡ refusal
 unfolding numbered
@@ -70,6 +85,7 @@ read-back Of.Opposite = refl
 read-back Of.NotReduced = refl
 read-back Of.NotALine = refl
 read-back (Of.Strip refusal) = read-strip refusal
+read-back (Of.Proposal refusal) = read-proposal refusal
 
 pub number-tells : (x y : Refusal) → number x ≡ number y → x ≡ y
 number-tells x y e = sym (read-back x) ∙ ap numbered e ∙ read-back y
@@ -91,6 +107,7 @@ number-above Of.Opposite = lit< tt
 number-above Of.NotReduced = lit< tt
 number-above Of.NotALine = lit< tt
 number-above (Of.Strip refusal) = omega (arith, strip-above refusal)
+number-above (Of.Proposal refusal) = omega (arith, proposal-above refusal)
 
 -- an answer that is not refused is no refusal
 pub never-none : (refusal : Refusal) → number refusal ≡ 0 → ⊥
@@ -102,14 +119,19 @@ verdicts-told Says.Passed (Says.Refused refusal) same = absurd (never-none refus
 verdicts-told (Says.Refused refusal) Says.Passed same = absurd (never-none refusal same)
 verdicts-told (Says.Refused x) (Says.Refused y) same = ap Says.Refused (number-tells x y same)
 
--- 13 is none of them
+-- a number that is read as another's is none of them
+unread : (n : ℕ) → (number (numbered n) ≡ n → ⊥) → (refusal : Refusal) → number refusal ≡ n → ⊥
+unread n other refusal e = other (ap (λ (k : ℕ). number (numbered k)) (sym e) ∙ ap number (read-back refusal) ∙ e)
+
+-- 13 is read as 16
 pub never-late : (refusal : Refusal) → number refusal ≡ 13 → ⊥
 unfolding numbered
-never-late refusal e = clash refusal (sym (read-back refusal) ∙ ap numbered e) e
-  where
-    -- 13 is read as the last case, whose number is 16
-    clash : (refusal : Refusal) → refusal ≡ Of.NotALine → number refusal ≡ 13 → ⊥
-    clash refusal is e = let same : _≡_ {A = ℕ} 16 13 = sym (ap number is) ∙ e in omega (arith, same)
+never-late = unread 13 (λ same. omega (arith, same))
+
+-- 31 is read as 30
+pub never-out : (refusal : Refusal) → number refusal ≡ 31 → ⊥
+unfolding numbered proposal-numbered
+never-out = unread 31 (λ same. omega (arith, same))
 
 -- ---- a check, and a list of checks
 pub passes : (n : ℕ) (b : Bool) → suc n unless b ≡ 0 → b ≡ true

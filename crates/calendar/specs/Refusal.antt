@@ -1,9 +1,11 @@
--- Numbered refusals (01, "A request and its numbered refusals"; 02, Item 6): 0 stands for none.
+-- Numbered refusals (01, "A request and its numbered refusals"; 02, Items 6 and 7): 0 stands for none.
 use mathlib.Core.Bool.{Bool, cond}
 use mathlib.Core.List.{List, [], _∷_}
 use mathlib.Core.Path.{_≡_}
 use Prim.Native.Nat.{ℕ}
 use lib.Dec.{eqb}
+use Rattle.calendar.specs.declared.refusal.ProposalRefusal.{ProposalRefusal}
+use Rattle.calendar.specs.declared.refusal.ProposalRefusal.the-variants as Proposals
 use Rattle.calendar.specs.declared.refusal.Refusal.{Refusal}
 use Rattle.calendar.specs.declared.refusal.Refusal.the-variants as Of
 use Rattle.calendar.specs.declared.refusal.StripRefusal.{StripRefusal}
@@ -23,7 +25,12 @@ strip-number Strips.Azimuth = 26
 strip-number Strips.NotFound = 27
 strip-number Strips.Buffer = 28
 
--- the paper's number for each case; 13 carries an index, and is a case of the batch's answer
+-- the refusals of a proposal
+abbrev pub proposal-number : ProposalRefusal → ℕ
+proposal-number Proposals.Points = 29
+proposal-number Proposals.Opposite = 30
+
+-- the paper's number for each case; 13 carries an index and 31 a minute, and are cases of the batch's and of the judge's answer
 abbrev pub number : Refusal → ℕ
 number Of.Year = 1
 number Of.Month = 2
@@ -41,6 +48,7 @@ number Of.Opposite = 14
 number Of.NotReduced = 15
 number Of.NotALine = 16
 number (Of.Strip refusal) = strip-number refusal
+number (Of.Proposal refusal) = proposal-number refusal
 
 abbrev pub verdict-number : Verdict → ℕ
 verdict-number Says.Passed = 0

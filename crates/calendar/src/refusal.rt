@@ -1,6 +1,6 @@
 // The papers' refusals, a case for each number, so that no other number can be given.
 ghost use mathlib.Core.Path.{_≡_};
-ghost use Rattle.calendar.specs.Refusal.{number, strip-number, verdict-number, _unless_, _else_};
+ghost use Rattle.calendar.specs.Refusal.{number, proposal-number, strip-number, verdict-number, _unless_, _else_};
 
 // Of a day strip: 02's, from 20 on.
 pub enum StripRefusal {
@@ -15,7 +15,13 @@ pub enum StripRefusal {
     Buffer,
 }
 
-// 13 is not among them: it carries an index, and has a case of its own in a batch's answer.
+// Of a proposal: 02's 29 and 30.
+pub enum ProposalRefusal {
+    Points,
+    Opposite,
+}
+
+// 13 and 31 are not among them: they carry an index and a minute, and have a case of their own in a batch's and in a judge's answer.
 pub enum Refusal {
     Year,
     Month,
@@ -33,6 +39,7 @@ pub enum Refusal {
     NotReduced,
     NotALine,
     Strip(StripRefusal),
+    Proposal(ProposalRefusal),
 }
 
 // What a check says.
@@ -57,6 +64,15 @@ fn strip_number(refusal: StripRefusal) -> u32
     }
 }
 
+fn proposal_number(refusal: ProposalRefusal) -> u32
+    ensures { λ r. ⌜ r ≡ proposal-number refusal ⌝ }
+{
+    match refusal {
+        ProposalRefusal::Points => 29,
+        ProposalRefusal::Opposite => 30,
+    }
+}
+
 // The paper's number.
 pub fn number_of(refusal: Refusal) -> u32
     ensures { λ r. ⌜ r ≡ number refusal ⌝ }
@@ -78,6 +94,7 @@ pub fn number_of(refusal: Refusal) -> u32
         Refusal::NotReduced => 15,
         Refusal::NotALine => 16,
         Refusal::Strip(of_strip) => strip_number(of_strip),
+        Refusal::Proposal(of_proposal) => proposal_number(of_proposal),
     }
 }
 

@@ -1,15 +1,15 @@
 -- What a refused batch leaves as it was: both buffers, and the index and the count unless it is late.
-use mathlib.Core.Bool.{Bool, cond, false, true}
+use mathlib.Core.Bool.{Bool, cond}
 use mathlib.Core.List.{List, [], _∷_}
 use mathlib.Core.Path.{_≡_, ap, sym}
 use Prim.Native.Nat.{ℕ}
 use native.Mathlib.Omega.{arith}
-use lib.Dec.{leb}
 use lib.IntN.{ℤ}
 use borrow.Author.Tests.{ne-eqb}
 use Rattle.batch.specs.Batch.{BatchAnswer, filled, left-in}
 use Rattle.capi.specs.Answers.{told-of-batch}
-use Rattle.boundary.specs.Codes.{body-refusal, moon}
+use Rattle.boundary.specs.Codes.{body-refusal}
+use Rattle.capi.proofs.WrittenLaws.{body-unlike}
 
 module _ (answer : BatchAnswer) (refuses : answer .refusal ≡ 0 → ⊥) where
   pub buffer-kept : (entry : ℕ → ℤ) (offsets : List ℕ) (before : List ℤ) → before ≡ left-in answer entry offsets before
@@ -22,8 +22,4 @@ module _ (answer : BatchAnswer) (refuses : answer .refusal ≡ 0 → ⊥) where
 
 -- an unknown body is not the refusal of a late one
 pub body-not-late : (code : ℕ) → body-refusal code ≡ 13 → ⊥
-body-not-late code = go (leb code moon)
-  where
-    go : (b : Bool) → cond {A = ℕ} b 0 101 ≡ 13 → ⊥
-    go true e = omega arith
-    go false e = omega arith
+body-not-late code = body-unlike code (λ e. omega (arith, e)) (λ e. omega (arith, e))

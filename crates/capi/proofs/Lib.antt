@@ -1,3 +1,4 @@
 pub mod BatchLaws
+pub mod ProposalLaws
 pub mod InstantLaws
 pub mod WrittenLaws

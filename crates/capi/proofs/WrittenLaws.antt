@@ -1,9 +1,10 @@
 -- What every export promises, of the number that it gives and of what it leaves behind its reference: where it refuses, and where it answers.
-use mathlib.Core.Bool.{Bool, cond}
+use mathlib.Core.Bool.{Bool, cond, false, true}
 use mathlib.Core.Path.{_∙_, _≡_, ap, refl, sym}
 use Prim.Native.Nat.{ℕ}
-use lib.Dec.{eqb}
+use lib.Dec.{eqb, leb}
 use borrow.Author.Tests.{eq-eqb, ne-eqb}
+use Rattle.boundary.specs.Codes.{body-refusal, moon, unknown-body}
 use Rattle.calendar.specs.Refusal.{number}
 use Rattle.calendar.specs.declared.refusal.Refusal.{Refusal}
 use Rattle.calendar.proofs.RefusalLaws.{never-none}
@@ -79,3 +80,11 @@ module _ {A : Type 0} (refusal : ℕ) (answer : Answer ℕ) (filled before : A) 
     pub count-refused-by : (by : Refusal) {given : ℕ} → given ≡ number by → number by ≡ answer .refusal → Counted given left count-before
     count-refused-by by g is =
         let told = refused-by (asked .refusal) (asked .value) count-before by g (is ∙ ap (λ (a : Answer ℕ). a .refusal) same) in (told .0, (left-is, told .1))
+
+-- the code of a body is refused by its own number, and by no other
+pub body-unlike : {n : ℕ} (code : ℕ) → (0 ≡ n → ⊥) → (unknown-body ≡ n → ⊥) → body-refusal code ≡ n → ⊥
+body-unlike {n} code none-is unknown-is = go (leb code moon)
+  where
+    go : (b : Bool) → cond {A = ℕ} b 0 unknown-body ≡ n → ⊥
+    go true e = none-is e
+    go false e = unknown-is e

@@ -7,6 +7,7 @@ pub mod instants;
 pub mod leaves;
 pub mod middle;
 pub mod place;
+pub mod proposals;
 pub mod rise_set;
 pub mod samples;
 pub mod strips;
