@@ -15,9 +15,9 @@ use Rattle.day_azimuths.specs.Azimuths.{worked}
 use Rattle.sky.specs.Answer.{Answer}
 use Rattle.strip.specs.Checks.{absent, steps}
 use Rattle.strip.specs.Format.{Strip, azimuth-part, encode, header-size, strip-of}
-use Rattle.strip.specs.Writing.{write}
-use Rattle.strip.specs.declared.reader.StripAzimuth.{StripAzimuth}
-use Rattle.strip.specs.declared.reader.StripAzimuth.the-variants.{Absent, NoAzimuth, NoStep, Towards}
+use Rattle.strip_reader.specs.declared.reader.StripAzimuth.{StripAzimuth}
+use Rattle.strip_reader.specs.declared.reader.StripAzimuth.the-variants.{Absent, NoAzimuth, NoStep, Towards}
+use Rattle.strip_writer.specs.Writing.{write}
 use Rattle.capi.specs.Answers.{formed, written-one}
 
 -- ---- written

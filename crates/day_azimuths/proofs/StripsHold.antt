@@ -25,10 +25,9 @@ use Rattle.sky_vectors.specs.SkyRange.{latitude-limit, longitude-limit}
 use Rattle.sky_vectors.specs.declared.geocentric.Body.{Body}
 use Rattle.sky_vectors.specs.declared.geocentric.Body.the-variants.{Moon, Sun}
 use Rattle.sky_vectors.specs.declared.station.Point.{Point}
-use Rattle.strip.specs.Checks.{full-turn, header-refusals, is-azimuth, is-date, is-point, steps}
+use Rattle.strip.specs.Checks.{are-azimuths, full-turn, header-refusals, is-azimuth, is-date, is-point, steps}
 use Rattle.strip.specs.Format.{Strip, air-byte, body-byte}
-use Rattle.strip.specs.Reading.{are-azimuths}
-use Rattle.strip.specs.Writing.{strip-refusals}
+use Rattle.strip_writer.specs.Writing.{strip-refusals}
 use Rattle.sum_rules.specs.Instant.{minus}
 use Rattle.text.proofs.WordLaws.{all-append}
 use Rattle.text.specs.Line.{all}

@@ -8,7 +8,7 @@ use Rattle.refraction.specs.declared.air.Air.{Air}
 use Rattle.sky_vectors.specs.declared.geocentric.Body.{Body}
 use Rattle.sky_vectors.specs.declared.station.Point.{Point}
 use Rattle.strip.specs.Format.{Strip, air-byte, strip-of}
-use Rattle.strip.specs.Writing.{strip-refusals}
+use Rattle.strip_writer.specs.Writing.{strip-refusals}
 use Rattle.day_azimuths.specs.Answer.{day-azimuths}
 use Rattle.day_azimuths.specs.Azimuths.{worked}
 

@@ -39,6 +39,14 @@ module _ {A : Type 0} (refusal : ℕ) (zeros value : A) where
   pub judged-zeros : (refusal ≡ 0 → ⊥) → judged refusal zeros value ≡ record { refusal = refusal; value = zeros }
   judged-zeros n = rw (ne-eqb refusal 0 n) refl
 
+-- what was found, and what was refused, as a judgement
+module _ {A : Type 0} (zeros value : A) {refusal : ℕ} where
+  pub answered-with : {found : A} → refusal ≡ 0 → found ≡ value → record { refusal = 0; value = found } ≡ judged refusal zeros value
+  answered-with none same = (λ i. record { refusal = 0; value = same i }) ∙ sym (judged-value refusal zeros value none)
+
+  pub refused-with : {n : ℕ} → refusal ≡ n → (n ≡ 0 → ⊥) → record { refusal = n; value = zeros } ≡ judged refusal zeros value
+  refused-with is refuses = (λ i. record { refusal = sym is i; value = zeros }) ∙ sym (judged-zeros refusal zeros value (λ e. refuses (sym is ∙ e)))
+
 -- an answer whose numbers are those of a judgement
 module _ {A : Type 0} (refusal : ℕ) (zeros value : A) where
   pub not-refused : {found : A} → record { refusal = 0; value = found } ≡ judged refusal zeros value → (refusal ≡ 0) × (found ≡ value)

@@ -8,9 +8,8 @@ use Rattle.octets.proofs.FieldLaws.{parted-alike, parted-length}
 use Rattle.octets.specs.Octets.{alike, number}
 use Rattle.text.proofs.LineLaws.{all-fails, all-goes-on, all-over}
 use Rattle.text.specs.Line.{all}
-use Rattle.strip.specs.Checks.{is-azimuth}
+use Rattle.strip.specs.Checks.{are-azimuths, is-azimuth}
 use Rattle.strip.specs.Format.{azimuth-size, azimuths-in}
-use Rattle.strip.specs.Reading.{are-azimuths}
 
 -- ---- a loop over a list: what is left decides
 module _ (list : List ℕ) where

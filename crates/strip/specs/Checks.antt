@@ -13,6 +13,7 @@ use Rattle.number_rules.specs.Calendar.{day-count}
 use Rattle.numbers.specs.Whole.{between}
 use Rattle.sky_vectors.specs.SkyRange.{latitude-limit, longitude-limit}
 use Rattle.sum_rules.specs.Instant.{minus}
+use Rattle.text.specs.Line.{all}
 use Rattle.strip.specs.declared.header.Header.{Header}
 
 -- where absent
@@ -26,6 +27,10 @@ full-turn = 3_600_000_000
 -- 26: an azimuth at or above 3,600,000,000 that isn't the absent mark
 abbrev pub is-azimuth : ℕ → Bool
 is-azimuth n = ltb n full-turn || eqb n absent
+
+-- each of a strip's numbers is one
+unfoldable pub are-azimuths : List ℕ → Bool
+are-azimuths azimuths = all is-azimuth azimuths
 
 -- a date of document 01's
 unfoldable pub is-date : Header → Bool

@@ -1,6 +1,3 @@
-// Day strips, to and from the phone: a day's azimuths as octets (02, Item 6).
+// Day strips: a day's azimuths as octets, their format and the checks of it (02, Item 6).
 pub mod checks;
 pub mod header;
-pub mod lookup;
-pub mod reader;
-pub mod writer;

@@ -2,8 +2,8 @@
 use mathlib.Core.Path.{_∙_, _≡_, ap, sym}
 use Prim.Native.Nat.{ℕ}
 use borrow.Author.Needs.{needs}
-use Rattle.strip.specs.Reading.{azimuth-at}
-use Rattle.strip.specs.declared.reader.StripAzimuth.{StripAzimuth}
+use Rattle.strip_reader.specs.Reading.{azimuth-at}
+use Rattle.strip_reader.specs.declared.reader.StripAzimuth.{StripAzimuth}
 use Rattle.capi.specs.Answers.{written-one}
 use Rattle.capi.specs.Strips.{azimuth-number, azimuth-refusal}
 use Rattle.capi.proofs.strips.raddlehue_strip_azimuth.Statement.{statement}

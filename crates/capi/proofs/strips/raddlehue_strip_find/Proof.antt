@@ -6,10 +6,10 @@ use lib.ListN.{length-drop}
 use borrow.Author.Needs.{needs}
 use Rattle.numbers.proofs.Machine.{any}
 use Rattle.sky.specs.Answer.{Answer}
-use Rattle.strip.proofs.LookupLaws.{first-there, second-there}
 use Rattle.strip.specs.Format.{header-size}
-use Rattle.strip.specs.Lookup.{found-answer, which}
-use Rattle.strip.specs.declared.lookup.Found.{Found}
+use Rattle.strip_reader.proofs.LookupLaws.{first-there, second-there}
+use Rattle.strip_reader.specs.Lookup.{found-answer, which}
+use Rattle.strip_reader.specs.declared.lookup.Found.{Found}
 use Rattle.capi.specs.Strips.{part-values}
 use Rattle.capi.proofs.WrittenLaws.{refused-by, seen}
 use Rattle.capi.proofs.strips.raddlehue_strip_find.Statement.{statement}

@@ -3,8 +3,8 @@ use mathlib.Core.Path.{_∙_, ap, sym}
 use borrow.Author.Needs.{needs}
 use Rattle.boundary.specs.Lent.{header-values}
 use Rattle.sky.specs.Answer.{Answer}
-use Rattle.strip.specs.Reading.{read, read-answer}
 use Rattle.strip.specs.declared.header.Header.{Header}
+use Rattle.strip_reader.specs.Reading.{read, read-answer}
 use Rattle.capi.proofs.WrittenLaws.{refused-by, seen}
 use Rattle.capi.proofs.strips.raddlehue_strip_read.Statement.{statement}
 use Rattle.capi.proofs.strips.raddlehue_strip_read.Tie as tie

@@ -7,8 +7,8 @@ use borrow.Author.Needs.{needs}
 use Rattle.boundary.specs.Given.{header-code-refusal}
 use Rattle.sky.specs.Answer.{Answer}
 use Rattle.strip.specs.Format.{Strip, encode, strip-of}
-use Rattle.strip.specs.Writing.{left-in, write, write-answer}
 use Rattle.strip.specs.declared.header.Header.{Header}
+use Rattle.strip_writer.specs.Writing.{left-in, write, write-answer}
 use Rattle.capi.specs.Answers.{written-one}
 use Rattle.capi.specs.Strips.{coded-write, strip-from}
 use Rattle.capi.proofs.WrittenLaws.{count-refused-by, count-seen, count-unknown}

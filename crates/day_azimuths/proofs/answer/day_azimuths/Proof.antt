@@ -8,7 +8,7 @@ use borrow.Author.Needs.{needs}
 use Rattle.calendar.proofs.RefusalLaws.{never-none}
 use Rattle.calendar.specs.Refusal.{first, verdict-number}
 use Rattle.numbers.proofs.Machine.{any}
-use Rattle.strip.proofs.ReadLaws.{answered-with, refused-with}
+use Rattle.sky.proofs.AnswerLaws.{answered-with, refused-with}
 use Rattle.strip.specs.Checks.{is-step, steps}
 use Rattle.day_azimuths.specs.Answer.{azimuths-refusals, day-azimuths}
 use Rattle.day_azimuths.specs.Azimuths.{worked}
