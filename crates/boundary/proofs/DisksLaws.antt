@@ -7,7 +7,7 @@ use lib.Signed.{_≤ℤ_}
 use Rattle.arithmetic.proofs.Sizes.{at-least, at-most}
 use Rattle.calendar.specs.Refusal.{_unless_}
 use Rattle.calendar.proofs.RefusalLaws.{none, passes}
-use Rattle.eclipse.specs.EclipseRange.{Radii, radius-most, sun-radius-least}
+use Rattle.overlap.specs.DiskRange.{Radii, radius-most, sun-radius-least}
 use Rattle.number_rules.specs.Angle.{half-turn}
 use Rattle.numbers.specs.Whole.{between}
 use Rattle.request.proofs.RequestLaws.{between-le}

@@ -7,7 +7,7 @@ use lib.Ieee.{Float}
 use lib.IntN.{natAbs, pos, ℤ}
 use Rattle.number_rules.specs.Angle.{half-turn, quarter-turn}
 use Rattle.sum_rules.specs.Instant.{furthest, minus}
-use Rattle.eclipse.specs.EclipseRange.{radius-most, sun-radius-least}
+use Rattle.overlap.specs.DiskRange.{radius-most, sun-radius-least}
 use Rattle.calendar.specs.Refusal.{_else_, _unless_, first}
 use Rattle.numbers.specs.Whole.{between}
 use Rattle.refraction.specs.Air.{air-refusals}

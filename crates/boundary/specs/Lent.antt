@@ -4,7 +4,7 @@ use mathlib.Core.List.{List, [], _∷_}
 use Prim.Native.Nat.{ℕ}
 use lib.Ieee.{Float}
 use lib.IntN.{pos, ℤ}
-use Rattle.day.specs.Answer.{RiseSetNumbers}
+use Rattle.rise_set.specs.Answer.{RiseSetNumbers}
 use Rattle.sky.specs.Answer.{PlaceNumbers}
 use Rattle.sky.specs.declared.shown.Shown.{Shown}
 use Rattle.strip.specs.declared.header.Header.{Header}

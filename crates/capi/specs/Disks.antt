@@ -3,8 +3,8 @@ use mathlib.Core.List.{List, [], _∷_}
 use lib.IntN.{natAbs, pos, ℤ}
 use Rattle.boundary.specs.Given.{point-from}
 use Rattle.eclipse.specs.Answer.{solar-eclipse}
-use Rattle.eclipse.specs.Overlap.{share}
 use Rattle.eclipse.specs.declared.disks.Eclipse.{Eclipse}
+use Rattle.overlap.specs.Overlap.{share}
 use Rattle.request.specs.Request.{start-from}
 use Rattle.sky.specs.Answer.{Answer}
 

@@ -4,8 +4,8 @@ use Prim.Native.Nat.{ℕ}
 use lib.IntN.{ℤ}
 use Rattle.boundary.specs.Codes.{body-of, body-refusal}
 use Rattle.boundary.specs.Given.{point-from}
-use Rattle.day.specs.Answer.{RiseSetNumbers, neither, rise-and-set}
 use Rattle.day.specs.Date.{date-from}
+use Rattle.rise_set.specs.Answer.{RiseSetNumbers, neither, rise-and-set}
 use Rattle.sky.specs.Answer.{Answer}
 use Rattle.capi.specs.Answers.{formed}
 

@@ -2,12 +2,12 @@
 // arrays of numbers and slices; the refusal comes back (0 where there is none), the answer is written through a reference, and a refused call writes nothing.
 pub mod air;
 pub mod azimuths;
+pub mod days;
 pub mod disks;
 pub mod instants;
 pub mod leaves;
 pub mod middle;
 pub mod place;
 pub mod proposals;
-pub mod rise_set;
 pub mod samples;
 pub mod strips;

@@ -20,9 +20,8 @@ use Rattle.sky_vectors.specs.declared.station.Point.{Point}
 use Rattle.sky_vectors.specs.declared.station.Runner.{Runner}
 use Rattle.sum_rules.proofs.AcceptedInstants.{terrestrial-near, universal-near}
 use Rattle.sum_rules.specs.Instant.{Accepted, day, day-after-last, first-day, second}
-use Rattle.day.specs.Curve.{AcceptedDay, minute, minute-of, minutes}
+use Rattle.day.specs.Curve.{AcceptedDay, DayBefore, minute, minute-of, minutes}
 use Rattle.day.specs.Date.{clock, count, day-refusals, days}
-use Rattle.day.specs.Worked.{DayBefore}
 use Rattle.day.specs.declared.date.Date.{Date}
 
 -- ---- the start of a minute

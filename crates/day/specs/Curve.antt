@@ -1,10 +1,11 @@
 -- The curve (02, Item 1): a whole day of 1,440 elevations, worked once and kept.
 use mathlib.Core.List.{List, [], _++_, _∷_}
 use Prim.Native.Nat.{_*_, _-_, _<_, suc, zero, ℕ}
-use lib.IntN.{pos, ℤ}
+use lib.IntN.{_-ℤ_, pos, ℤ}
+use lib.Signed.{_<ℤ_}
 use Rattle.arctangent.specs.Direction.{angle-or, mark}
 use Rattle.arctangent.specs.declared.direction.Direction.{Direction}
-use Rattle.sum_rules.specs.Instant.{Accepted, second, terrestrial-time, universal-time}
+use Rattle.sum_rules.specs.Instant.{Accepted, first-day, second, terrestrial-time, universal-time}
 use Rattle.sum_rules.specs.declared.instant.Instant.{Instant}
 use Rattle.sky_vectors.specs.Place.{place-at, place-from}
 use Rattle.sky_vectors.specs.declared.geocentric.Body.{Body}
@@ -71,3 +72,7 @@ coordinate-from coordinate body runner date d m = coordinate-of coordinate (plac
 -- a day whose every minute is accepted
 pub record AcceptedDay (date : Date) (d : ℤ) : Type 0 where
   pub each : (m : ℕ) → m < minutes → Accepted d (pos (m * minute)) (date .ut1) (date .«delta_t»)
+
+-- a day that is the first, or whose day before is accepted
+pub record DayBefore (date : Date) (d : ℤ) : Type 0 where
+  pub accepted : first-day <ℤ d → AcceptedDay date (d -ℤ pos 1)

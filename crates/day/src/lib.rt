@@ -1,5 +1,3 @@
-// A day: its curve of 1,440 elevations, worked once and kept, and its rise and set.
-pub mod answer;
-pub mod crossing;
+// A day: its date, and the curve of a coordinate at its 1,440 minutes.
 pub mod curve;
 pub mod date;

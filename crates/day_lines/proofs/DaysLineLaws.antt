@@ -8,13 +8,13 @@ use native.Mathlib.Omega.{arith}
 use lib.Dec.{T, eqb}
 use lib.IntN.{pos, ℤ}
 use lib.ListN.{length, length-append, replicate}
+use Rattle.day.specs.Date.{date-from}
+use Rattle.rise_set.specs.Answer.{RiseSetNumbers, rise-and-set}
+use Rattle.rise_set.specs.Crossing.{CrossingNumbers}
 use Rattle.text.proofs.DecimalLaws.{padded-length}
 use Rattle.text.specs.Cases.{bytes}
 use Rattle.text.specs.Line.{answer, space}
 use Rattle.sky_vectors.specs.declared.geocentric.Body.{Body}
-use Rattle.day.specs.Answer.{RiseSetNumbers, rise-and-set}
-use Rattle.day.specs.Crossing.{CrossingNumbers}
-use Rattle.day.specs.Date.{date-from}
 use Rattle.line_answers.proofs.BodyLineLaws.{long-numbers, padded-point, too-long}
 use Rattle.line_answers.proofs.SheetLaws.{padded-column}
 use Rattle.line_answers.specs.BodyLine.{longest-request, point-from}

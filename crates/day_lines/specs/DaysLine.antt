@@ -5,14 +5,14 @@ use mathlib.Core.Option.{Option, none, some}
 use Prim.Native.Nat.{_%_, _/_, ℕ}
 use lib.Dec.{eqb}
 use lib.IntN.{ℤ}
+use Rattle.day.specs.Date.{date-from}
+use Rattle.rise_set.specs.Answer.{RiseSetNumbers, neither, rise-and-set}
+use Rattle.rise_set.specs.Crossing.{CrossingNumbers}
 use Rattle.text.specs.Cases.{bytes}
 use Rattle.text.specs.Decimal.{padded}
 use Rattle.text.specs.Line.{space}
 use Rattle.sky.specs.Answer.{Answer}
 use Rattle.sky_vectors.specs.declared.geocentric.Body.{Body}
-use Rattle.day.specs.Answer.{RiseSetNumbers, neither, rise-and-set}
-use Rattle.day.specs.Crossing.{CrossingNumbers}
-use Rattle.day.specs.Date.{date-from}
 use Rattle.line_answers.specs.BodyLine.{body-line, body-numbers, by-body, point-from}
 use Rattle.line_answers.specs.Printed.{answer-line, newline}
 

@@ -1,9 +1,5 @@
 // One line of the program `days`: its answer, and the answer as it is printed.
 use calendar::refusal::Refusal;
-use day::answer::RiseSet;
-use day::answer::RiseSetAnswer;
-use day::answer::rise_and_set;
-use day::crossing::Crossing;
 use day::curve::MINUTES;
 use day::date::Date;
 use line_answers::body_line::BodyLine;
@@ -11,6 +7,10 @@ use line_answers::body_line::body_line;
 use line_answers::body_line::body_numbers;
 use line_answers::body_line::point_from;
 use line_answers::refused::refusal_text;
+use rise_set::answer::RiseSet;
+use rise_set::answer::RiseSetAnswer;
+use rise_set::answer::rise_and_set;
+use rise_set::crossing::Crossing;
 use sky_vectors::geocentric::Body;
 use text::decimal::Text;
 use text::decimal::appended_byte;
@@ -20,9 +20,9 @@ ghost use mathlib.Core.Path.{_≡_};
 ghost use Prim.Native.Nat.{_+_, _≤_};
 ghost use lib.ListN.{length, drop};
 ghost use Rattle.calendar.specs.Refusal.{OneAnswer};
-ghost use Rattle.day.specs.Answer.{rise-set-answer, rise-set-numbers};
-ghost use Rattle.day.specs.Crossing.{crossing-numbers};
 ghost use Rattle.day.specs.Date.{date-from};
+ghost use Rattle.rise_set.specs.Answer.{rise-set-answer, rise-set-numbers};
+ghost use Rattle.rise_set.specs.Crossing.{crossing-numbers};
 ghost use Rattle.text.specs.Decimal.{Appended, text-room, written};
 ghost use Rattle.day_lines.specs.DaysLine.{body-answer, days-answer, days-line, crossing-text, rise-set-line, time-text};
 

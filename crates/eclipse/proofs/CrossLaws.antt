@@ -11,13 +11,13 @@ use Rattle.arithmetic.proofs.Sizes.{add-bound, mul-bound, sub-bound}
 use Rattle.number_rules.specs.Angle.{half-turn}
 use Rattle.numbers.proofs.Machine.{Mirror, gave}
 use Rattle.numbers.proofs.RootLaws.{root-most, under}
+use Rattle.overlap.proofs.ShortWayLaws.{short-most}
 use Rattle.sky_vectors.specs.Product.{_·_}
 use Rattle.sky_vectors.specs.SkyRange.{SmallVector}
 use Rattle.sky_vectors.specs.declared.vector.Vector.{Vector}
 use Rattle.sky_vectors.proofs.RotationLaws.{product-most}
 use Rattle.eclipse.specs.EclipseRange.{ShortVector, coordinate-limit, cross-limit, square-of, squared-limit}
 use Rattle.eclipse.specs.Separation.{cross, dot, length, minor, separation}
-use Rattle.eclipse.proofs.ShortWayLaws.{short-most}
 
 -- ---- a short vector's coordinates are small
 pub short-small : {vector : Vector} → ShortVector vector → SmallVector coordinate-limit vector

@@ -1,5 +1,6 @@
 -- Every eclipse keeps to its bounds: a separation goes the short way round, and every share holds.
 use mathlib.Core.Path.{refl}
+use Rattle.overlap.proofs.ShareHolds.{every-share-holds}
 use Rattle.sky_vectors.specs.Geocentric.{geocentric}
 use Rattle.sky_vectors.specs.Place.{direction, place-towards}
 use Rattle.sky_vectors.specs.Station.{runner}
@@ -8,7 +9,6 @@ use Rattle.eclipse.specs.Eclipse.{EveryEclipseInBounds, eclipse-at, ecli
 use Rattle.eclipse.specs.Radius.{moon-radius, sun-radius}
 use Rattle.eclipse.specs.Separation.{separation}
 use Rattle.eclipse.proofs.CrossLaws.{separation-most}
-use Rattle.eclipse.proofs.ShareHolds.{every-share-holds}
 
 pub every-eclipse-in-bounds : EveryEclipseInBounds
 unfolding eclipse-at eclipse-from eclipse-of

@@ -1,9 +1,6 @@
-pub mod ShortWayLaws
 pub mod CrossLaws
 pub mod LengthLaws
 pub mod RadiusLaws
-pub mod OverlapLaws
-pub mod ShareHolds
 pub mod DirectionLaws
 pub mod InBounds
 pub mod AnswerLaws

@@ -11,10 +11,11 @@ use Rattle.arithmetic.proofs.FloorLaws.{above-is}
 use Rattle.arithmetic.proofs.Sizes.{add-bound, at-least}
 use Rattle.number_rules.proofs.SineSize.{sine-most}
 use Rattle.number_rules.specs.Sine.{sine}
+use Rattle.overlap.specs.DiskRange.{Radii, radius-most, sun-radius-least}
 use Rattle.sky_vectors.specs.Product.{_·_}
 use Rattle.sky_vectors.specs.declared.geocentric.Geocentric.{Geocentric}
 use Rattle.sky_vectors.proofs.RotationLaws.{product-most}
-use Rattle.eclipse.specs.EclipseRange.{MoonFar, Radii, SunFar, radius-most, sun-radius-least}
+use Rattle.eclipse.specs.EclipseRange.{MoonFar, SunFar}
 use Rattle.eclipse.specs.Radius.{moon-radius, sun-radius}
 
 -- 10⁹ and a little more or less is a natural number

@@ -4,6 +4,7 @@ use Prim.Native.Nat.{_≤_}
 use lib.IntN.{natAbs, pos}
 use Rattle.number_rules.specs.Angle.{half-turn}
 use Rattle.numbers.specs.declared.sine.SineCosine.{SineCosine}
+use Rattle.overlap.specs.Overlap.{share, whole}
 use Rattle.sky_vectors.specs.Geocentric.{geocentric}
 use Rattle.sky_vectors.specs.Place.{direction, place-towards}
 use Rattle.sky_vectors.specs.Station.{runner}
@@ -13,7 +14,6 @@ use Rattle.sky_vectors.specs.declared.station.Point.{Point}
 use Rattle.sky_vectors.specs.declared.station.Runner.{Runner}
 use Rattle.sky_vectors.specs.declared.vector.Vector.{Vector}
 use Rattle.sum_rules.specs.declared.instant.Instant.{Instant}
-use Rattle.eclipse.specs.Overlap.{share, whole}
 use Rattle.eclipse.specs.Radius.{moon-radius, sun-radius}
 use Rattle.eclipse.specs.Separation.{separation}
 use Rattle.eclipse.specs.declared.disks.Eclipse.{Eclipse}

@@ -1,8 +1,5 @@
-pub mod ShortArctangent
 pub mod Separation
 pub mod Radius
-pub mod Overlap
-pub mod Share
 pub mod Eclipse
 pub mod Answer
 pub mod Demand3

@@ -3,9 +3,9 @@
 use Prim.Native.Nat.{ℕ}
 use lib.IntN.{_*ℤ_, _+ℤ_, _-ℤ_, natAbs, pos, ℤ}
 use Rattle.numbers.specs.Root.{root}
+use Rattle.overlap.specs.ShortArctangent.{short-arctangent}
 use Rattle.sky_vectors.specs.Product.{_·_}
 use Rattle.sky_vectors.specs.declared.vector.Vector.{Vector}
-use Rattle.eclipse.specs.ShortArctangent.{short-arctangent}
 
 -- s₁ m₂ - s₂ m₁, each product floored by 10⁹
 unfoldable pub minor : ℤ → ℤ → ℤ → ℤ → ℤ

@@ -1,9 +1,9 @@
 // The Sun and the Moon as two disks, seen from where a runner stands.
-use super::overlap::share;
 use super::radius::moon_radius;
 use super::radius::sun_radius;
 use super::separation::separation;
 use numbers::sine::SineCosine;
+use overlap::overlap::share;
 use sky_vectors::geocentric::Body;
 use sky_vectors::geocentric::Geocentric;
 use sky_vectors::geocentric::geocentric_at;

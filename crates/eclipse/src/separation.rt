@@ -1,7 +1,7 @@
 // The angle between two directions.
-use super::short_arctangent::short_arctangent;
 use numbers::root::root;
 use numbers::whole::floor_div;
+use overlap::short_arctangent::short_arctangent;
 use sky_vectors::vector::Vector;
 ghost use mathlib.Core.Path.{_≡_};
 ghost use Prim.Native.Nat.{_≤_};

@@ -15,10 +15,10 @@ use sky_vectors::geocentric::Body;
 use sky_vectors::station::Point;
 use sky_vectors::station::runner_at;
 ghost use mathlib.Core.Path.{_≡_};
-ghost use Rattle.number_rules.specs.SineTable.{sines};
-ghost use Rattle.calendar.specs.Refusal.{OneAnswer, first};
 ghost use Rattle.day.specs.Date.{day-refusals};
 ghost use Rattle.day.specs.Demand3.{DayNear};
+ghost use Rattle.number_rules.specs.SineTable.{sines};
+ghost use Rattle.calendar.specs.Refusal.{OneAnswer, first};
 ghost use Rattle.plan.specs.Answer.{azimuths-left, minutes-left, planning, planning-answer};
 ghost use Rattle.plan.specs.Plan.{EachMinute, day-azimuths, is-possible};
 
@@ -63,7 +63,7 @@ pub fn plan(
     ensures { λ r. ⌜ OneAnswer planning-answer (planning date body point tolerance) r ⌝ }
     ensures { λ _. ⌜ now (minutes .exit) ≡ minutes-left date body point tolerance (now (minutes .entry)) ⌝ }
     ensures { λ _. ⌜ now (azimuths .exit) ≡ azimuths-left date body point tolerance (now (azimuths .entry)) ⌝ }
-    ensures { λ _. ⌜ DayNear date body point ⌝ }
+    ensures { λ _. ⌜ DayNear date point ⌝ }
 {
     match day_verdict(date, point) {
         Verdict::Passed => {

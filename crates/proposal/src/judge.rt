@@ -26,13 +26,13 @@ ghost use mathlib.Core.Bool.{true};
 ghost use mathlib.Core.List.{_++_};
 ghost use mathlib.Core.Path.{_≡_};
 ghost use Prim.Native.Nat.{_-_, _<_, _≤_};
+ghost use Rattle.day.specs.Curve.{AcceptedDay, azimuth-from, azimuth-on, last-minute};
+ghost use Rattle.day.specs.Date.{day-refusals};
+ghost use Rattle.day.specs.Demand3.{DayNear};
 ghost use Rattle.number_rules.specs.Angle.{full-turn};
 ghost use Rattle.number_rules.specs.SineTable.{sines};
 ghost use Rattle.arctangent.specs.Direction.{Reduced};
 ghost use Rattle.calendar.specs.Refusal.{OneAnswer, first, verdict-number};
-ghost use Rattle.day.specs.Curve.{AcceptedDay, azimuth-from, azimuth-on, last-minute};
-ghost use Rattle.day.specs.Date.{day-refusals};
-ghost use Rattle.day.specs.Demand3.{DayNear};
 ghost use Rattle.sky_vectors.specs.SkyRange.{Standing};
 ghost use Rattle.proposal.specs.Points.{is-formed};
 ghost use Rattle.proposal.specs.Verdict.{first-out, form-refusals, is-out, judgement, judgement-answer, leg-of};
@@ -157,7 +157,7 @@ pub fn judge(
     azimuths: &[i64],
 ) -> Judgement
     ensures { λ r. ⌜ OneAnswer judgement-answer (judgement date body point tolerance (now (minutes .entry)) (now (azimuths .entry))) r ⌝ }
-    ensures { λ _. ⌜ DayNear date body point ⌝ }
+    ensures { λ _. ⌜ DayNear date point ⌝ }
 {
     match verdict_before(date, point, minutes, azimuths) {
         Verdict::Passed => {

@@ -6,10 +6,10 @@ use lib.IntN.{ℤ}
 use lib.ListN.{drop}
 use borrow.Author.Needs.{needs}
 use borrow.Author.Tests.{not-false, not-true}
-use Rattle.text.specs.declared.line.Numbers.{Numbers}
-use Rattle.day.proofs.AnswerLaws.{one-rise-set}
-use Rattle.day.specs.Answer.{rise-and-set}
 use Rattle.day.specs.Date.{date-from}
+use Rattle.rise_set.proofs.AnswerLaws.{one-rise-set}
+use Rattle.rise_set.specs.Answer.{rise-and-set}
+use Rattle.text.specs.declared.line.Numbers.{Numbers}
 use Rattle.line_answers.specs.BodyLine.{body-numbers, point-from}
 use Rattle.day_lines.specs.DaysLine.{body-answer}
 use Rattle.day_lines.proofs.DaysLineLaws.{not-read, was-read}

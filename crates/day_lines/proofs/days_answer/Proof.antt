@@ -1,9 +1,9 @@
 -- `day_lines::days_answer` meets its contract.
 use mathlib.Core.Path.{_∙_}
 use borrow.Author.Needs.{needs}
-use Rattle.day.proofs.AnswerLaws.{one-rise-set}
-use Rattle.day_lines.specs.DaysLine.{body-answer, days-answer, no-request}
 use Rattle.line_answers.proofs.BodyLineLaws.{start-within, told-by-body}
+use Rattle.rise_set.proofs.AnswerLaws.{one-rise-set}
+use Rattle.day_lines.specs.DaysLine.{body-answer, days-answer, no-request}
 use Rattle.day_lines.proofs.days_answer.Statement.{statement}
 use Rattle.day_lines.proofs.days_answer.Tie as tie
 

@@ -1,7 +1,7 @@
 -- `day_lines::days_line` meets its contract.
 use mathlib.Core.Path.{_∙_, ap, sym}
 use Rattle.line_answers.proofs.PrintedLaws.{refused-line, value-line}
-use Rattle.day.specs.Answer.{neither, rise-set-answer}
+use Rattle.rise_set.specs.Answer.{neither, rise-set-answer}
 use Rattle.day_lines.specs.DaysLine.{days-line, rise-set-line}
 use borrow.Author.Needs.{needs}
 use Rattle.day_lines.proofs.days_line.Statement.{statement}

@@ -3,10 +3,10 @@ use mathlib.Core.Path.{_∙_}
 use Prim.Native.Nat.{_≤_}
 use native.Mathlib.Omega.{arith}
 use borrow.Author.Needs.{needs}
+use Rattle.rise_set.specs.Answer.{rise-set-numbers}
+use Rattle.rise_set.specs.Crossing.{crossing-numbers}
 use Rattle.text.proofs.DecimalLaws.{appended-length, appended-twice}
 use Rattle.line_answers.proofs.PrintedLaws.{from-empty, none-used}
-use Rattle.day.specs.Answer.{rise-set-numbers}
-use Rattle.day.specs.Crossing.{crossing-numbers}
 use Rattle.day_lines.proofs.DaysLineLaws.{crossing-most, times-line}
 use Rattle.day_lines.proofs.rise_set_text.Statement.{statement}
 use Rattle.day_lines.proofs.rise_set_text.Tie as tie

@@ -4,7 +4,7 @@ use lib.IntN.{pos, ℤ}
 use borrow.Author.Needs.{needs}
 use Rattle.calendar.specs.Refusal.{_else_, _unless_, first}
 use Rattle.calendar.proofs.RefusalLaws.{first-one}
-use Rattle.eclipse.specs.EclipseRange.{radius-most, sun-radius-least}
+use Rattle.overlap.specs.DiskRange.{radius-most, sun-radius-least}
 use Rattle.number_rules.specs.Angle.{half-turn}
 use Rattle.numbers.specs.Whole.{between}
 use Rattle.numbers.proofs.Machine.{any}

@@ -3,12 +3,12 @@ use mathlib.Core.Path.{_∙_, _≡_, ap, subst⁻¹, sym}
 use Prim.Native.Nat.{_≤_, ℕ}
 use lib.IntN.{natAbs, pos, ℤ}
 use borrow.Author.Needs.{needs}
-use Rattle.eclipse.specs.EclipseRange.{Radii}
-use Rattle.eclipse.specs.Overlap.{share, whole}
-use Rattle.eclipse.proofs.ShareHolds.{every-share-holds}
+use Rattle.overlap.specs.DiskRange.{Radii}
 use Rattle.numbers.proofs.Machine.{any, cast-up, from-nat, nat-fits}
 use Rattle.boundary.specs.Codes.{disks-refusal}
 use Rattle.boundary.proofs.DisksLaws.{apart-above, moon-above, radii, sun-above}
+use Rattle.overlap.proofs.ShareHolds.{every-share-holds}
+use Rattle.overlap.specs.Overlap.{share, whole}
 use Rattle.capi.specs.Disks.{covered-share}
 use Rattle.capi.proofs.WrittenLaws.{answered, refused}
 use Rattle.capi.proofs.disks.raddlehue_covered_share.Statement.{statement}

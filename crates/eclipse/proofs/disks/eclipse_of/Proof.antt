@@ -5,17 +5,17 @@ use lib.IntN.{pos, ℤ}
 use borrow.Author.Needs.{needs}
 use Rattle.number_rules.specs.Angle.{half-turn}
 use Rattle.numbers.proofs.Machine.{from-nat, nat-fits, told}
+use Rattle.overlap.proofs.ShareHolds.{every-share-holds}
+use Rattle.overlap.specs.Overlap.{share, whole}
+use Rattle.overlap.specs.DiskRange.{Radii}
 use Rattle.sky_vectors.specs.Place.{place-towards}
 use Rattle.sky_vectors.specs.declared.place.Place.{Place}
 use Rattle.sky_vectors.proofs.PlaceLaws.{place-towards-in-turns}
 use Rattle.eclipse.specs.Eclipse.{eclipse-of}
-use Rattle.eclipse.specs.EclipseRange.{Radii}
-use Rattle.eclipse.specs.Overlap.{share, whole}
 use Rattle.eclipse.specs.Radius.{moon-radius, sun-radius}
 use Rattle.eclipse.specs.Separation.{separation}
 use Rattle.eclipse.proofs.CrossLaws.{separation-most}
 use Rattle.eclipse.proofs.RadiusLaws.{radii}
-use Rattle.eclipse.proofs.ShareHolds.{every-share-holds}
 use Rattle.eclipse.proofs.disks.eclipse_of.Statement.{statement}
 use Rattle.eclipse.proofs.disks.eclipse_of.Tie as tie
 

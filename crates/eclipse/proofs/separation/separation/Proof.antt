@@ -4,10 +4,10 @@ use Prim.Native.Nat.{_≤_, ℕ}
 use lib.IntN.{pos}
 use borrow.Author.Needs.{needs}
 use Rattle.numbers.proofs.Machine.{from-nat, nat-fits, passed}
+use Rattle.overlap.specs.ShortArctangent.{short-arctangent}
 use Rattle.sky_vectors.specs.SkyRange.{SmallVector}
 use Rattle.eclipse.specs.EclipseRange.{cross-limit}
 use Rattle.eclipse.specs.Separation.{cross, length, separation}
-use Rattle.eclipse.specs.ShortArctangent.{short-arctangent}
 use Rattle.eclipse.proofs.CrossLaws.{cross-small, length-most}
 use Rattle.eclipse.proofs.separation.separation.Statement.{statement}
 use Rattle.eclipse.proofs.separation.separation.Tie as tie

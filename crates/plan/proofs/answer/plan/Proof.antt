@@ -6,8 +6,8 @@ use lib.ListN.{drop}
 use borrow.Author.Needs.{needs}
 use Rattle.calendar.proofs.RefusalLaws.{never-none}
 use Rattle.calendar.specs.Refusal.{first, verdict-number}
-use Rattle.day.proofs.AnswerLaws.{every-day-near}
 use Rattle.day.specs.Date.{day-refusals}
+use Rattle.day.proofs.Demand3.{every-day-near}
 use Rattle.plan.specs.Answer.{planned}
 use Rattle.plan.specs.Plan.{Plannable, count, day-azimuths, is-possible, plan-azimuths, plan-minutes}
 use Rattle.plan.proofs.AnswerLaws.{day-whole, filled-in, left-alone, none-planned, one-planning, planned-is, refused-is}
@@ -81,7 +81,7 @@ returns c =
         (
           c .put-points .ensures .1 .1 ∙ ap (λ (list : List ℤ). plan-azimuths (a .tolerance) list ++ drop (count (a .tolerance) list) (a .azimuths .now)) same
               ∙ filled-in (a .date) (a .body) (a .point) (a .tolerance) (plan-azimuths (a .tolerance) (day k)) (a .azimuths .now) is,
-          every-day-near (a .date) (a .body) (a .point),
+          every-day-near (a .date) (a .point),
         ),
       ),
     )
@@ -97,7 +97,7 @@ returns-2 c =
       one-planning (sym is),
       (
         left-alone (a .date) (a .body) (a .point) (a .tolerance) (plan-minutes (a .tolerance) (day k)) (a .minutes .now) is,
-        (left-alone (a .date) (a .body) (a .point) (a .tolerance) (plan-azimuths (a .tolerance) (day k)) (a .azimuths .now) is, every-day-near (a .date) (a .body) (a .point)),
+        (left-alone (a .date) (a .body) (a .point) (a .tolerance) (plan-azimuths (a .tolerance) (day k)) (a .azimuths .now) is, every-day-near (a .date) (a .point)),
       ),
     )
 
@@ -111,7 +111,7 @@ returns-3 c =
       one-planning (sym is),
       (
         left-alone (a .date) (a .body) (a .point) (a .tolerance) (plan-minutes (a .tolerance) day) (a .minutes .now) is,
-        (left-alone (a .date) (a .body) (a .point) (a .tolerance) (plan-azimuths (a .tolerance) day) (a .azimuths .now) is, every-day-near (a .date) (a .body) (a .point)),
+        (left-alone (a .date) (a .body) (a .point) (a .tolerance) (plan-azimuths (a .tolerance) day) (a .azimuths .now) is, every-day-near (a .date) (a .point)),
       ),
     )
 

@@ -6,9 +6,9 @@ use native.Mathlib.Omega.{arith}
 use borrow.Author.Needs.{needs}
 use Rattle.calendar.proofs.RefusalLaws.{never-none, never-out, none-append}
 use Rattle.calendar.specs.Refusal.{first, verdict-number}
-use Rattle.day.proofs.AnswerLaws.{every-day-near}
 use Rattle.day.specs.Curve.{azimuth-on}
 use Rattle.day.specs.Date.{day-refusals}
+use Rattle.day.proofs.Demand3.{every-day-near}
 use Rattle.proposal.specs.Verdict.{form-refusals}
 use Rattle.proposal.proofs.VerdictLaws.{accepted-is, formed-passes, one-judgement, out-is, out-most, refused-is}
 use Rattle.proposal.proofs.judge.judge.Statement.{statement}
@@ -63,7 +63,7 @@ returns c =
       one-judgement
           ((λ i. record { refusal = 31; minute = is i })
           ∙ sym (out-is (a .date) (a .body) (a .point) (a .tolerance) (a .minutes .now) (a .azimuths .now) (passed told) (omega (arith, is, c .if1 .taken)))),
-      every-day-near (a .date) (a .body) (a .point),
+      every-day-near (a .date) (a .point),
     )
 
 returns-2 : tie.Need-returns-2
@@ -74,7 +74,7 @@ returns-2 c =
     let most = out-most (a .tolerance) (azimuth-on (a .date) (a .body) (a .point)) (a .minutes .now) (a .azimuths .now) in (
       one-judgement
           (sym (accepted-is (a .date) (a .body) (a .point) (a .tolerance) (a .minutes .now) (a .azimuths .now) (passed told) (omega (arith, w .work .ensures, c .if1 .left, most)))),
-      every-day-near (a .date) (a .body) (a .point),
+      every-day-near (a .date) (a .point),
     )
 
 returns-3 : tie.Need-returns-3
@@ -84,7 +84,7 @@ returns-3 c =
     let refusal = c .before .refusal .given .0 .0 in
     let is = sym (before .verdict-before .ensures) ∙ ap verdict-number (c .before .refusal .given .1) in (
       one-judgement (sym (refused-is (a .date) (a .body) (a .point) (a .tolerance) (a .minutes .now) (a .azimuths .now) is (never-none refusal) (never-out refusal))),
-      every-day-near (a .date) (a .body) (a .point),
+      every-day-near (a .date) (a .point),
     )
 
 pub judge-spec : {M : Type 1} → statement M

@@ -1,0 +1,3 @@
+pub mod ShortWayLaws
+pub mod OverlapLaws
+pub mod ShareHolds

@@ -1,0 +1,4 @@
+pub mod ShortArctangent
+pub mod Overlap
+pub mod Share
+pub mod DiskRange

@@ -1,0 +1,3 @@
+pub mod CrossingLaws
+pub mod AnswerLaws
+pub mod ClaimsHold

@@ -1,0 +1,4 @@
+pub mod Crossing
+pub mod Answer
+pub mod Claims
+pub mod Worked
