@@ -22,15 +22,15 @@ use Rattle.day.specs.declared.date.Date.{Date}
 use Rattle.heading.specs.Heading.{clockwise, is-reduced}
 use Rattle.number_rules.specs.Angle.{full-turn, half-turn}
 use Rattle.numbers.specs.declared.angle.Angle.{Angle}
-use Rattle.proposal.proofs.PointLaws.{never-opposite, reduced-at, reduced-when, turned-apart}
-use Rattle.proposal.proofs.SearchLaws.{and-intro, by-cases}
 use Rattle.proposal.proofs.VerdictLaws.{accepted-when, by-points}
-use Rattle.proposal.specs.Points.{azimuth, signed-at}
 use Rattle.proposal.specs.Verdict.{JudgementAnswer, judgement}
 use Rattle.sky.specs.Answer.{Answer}
 use Rattle.sky_vectors.proofs.PlaceLaws.{place-at-in-turns}
 use Rattle.sky_vectors.specs.declared.geocentric.Body.{Body}
 use Rattle.sky_vectors.specs.declared.station.Point.{Point}
+use Rattle.turning_points.proofs.PointLaws.{never-opposite, reduced-at, reduced-when, turned-apart}
+use Rattle.turning_points.proofs.SearchLaws.{and-intro, by-cases}
+use Rattle.turning_points.specs.Points.{azimuth, signed-at}
 use Rattle.plan.specs.Answer.{PlanNumbers, planning}
 use Rattle.plan.specs.Claims.{EveryPlanHolds, Possible, refusal-without, sent-azimuths, sent-minutes, without}
 use Rattle.plan.specs.Plan.{Plannable, day-azimuths, is-possible, plan-azimuths, plan-minutes}

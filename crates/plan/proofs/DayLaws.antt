@@ -14,11 +14,11 @@ use Rattle.day.proofs.SearchLaws.{before, clash, is-first, there}
 use Rattle.day.specs.Curve.{last-minute, minutes}
 use Rattle.day.specs.Search.{first-where}
 use Rattle.number_rules.specs.Angle.{full-turn}
-use Rattle.proposal.proofs.ArcLaws.{at-end, distance-same}
-use Rattle.proposal.proofs.PointLaws.{azimuth-below, turned-at}
-use Rattle.proposal.proofs.SearchLaws.{and-both, and-intro, at-none, is-nowhere}
-use Rattle.proposal.specs.Arc.{OnLeg, are-opposite, distance, value-on}
-use Rattle.proposal.specs.Points.{are-reduced, are-turned, azimuth, nowhere}
+use Rattle.turning_points.proofs.ArcLaws.{at-end, distance-same}
+use Rattle.turning_points.proofs.PointLaws.{azimuth-below, turned-at}
+use Rattle.turning_points.proofs.SearchLaws.{and-both, and-intro, at-none, is-nowhere}
+use Rattle.turning_points.specs.Arc.{OnLeg, are-opposite, distance, value-on}
+use Rattle.turning_points.specs.Points.{are-reduced, are-turned, azimuth, nowhere}
 use Rattle.plan.specs.Plan.{EachMinute, Plannable, count, farthest, is-off, is-possible, reaches, straight, turning}
 
 pub plannable : (day : List ℤ) → EachMinute day → is-possible day ≡ true → Plannable day

@@ -19,15 +19,15 @@ use Rattle.day.proofs.CurveLaws.{below-entry, below-length}
 use Rattle.day.proofs.SearchLaws.{clash}
 use Rattle.day.specs.Curve.{last-minute, minutes}
 use Rattle.heading.specs.Heading.{is-reduced}
-use Rattle.proposal.proofs.ArcLaws.{distance-same}
 use Rattle.proposal.proofs.LegLaws.{leg-is, value-start}
-use Rattle.proposal.proofs.PointLaws.{formed-when, reduced-at, turned-at, turned-when, well-formed}
 use Rattle.proposal.proofs.VerdictLaws.{Unrefused, refused-later, unrefused}
-use Rattle.proposal.specs.Arc.{are-opposite, distance, value-on}
-use Rattle.proposal.specs.Claims.{WellFormed}
-use Rattle.proposal.specs.Points.{are-turned, at, azimuth, leg-at, signed-at}
 use Rattle.proposal.specs.Verdict.{is-out, leg-of, out-at, proposal-refusals, value-at}
-use Rattle.proposal.specs.declared.arc.Leg.{Leg}
+use Rattle.turning_points.proofs.ArcLaws.{distance-same}
+use Rattle.turning_points.proofs.PointLaws.{formed-when, reduced-at, turned-at, turned-when, well-formed}
+use Rattle.turning_points.specs.Arc.{are-opposite, distance, value-on}
+use Rattle.turning_points.specs.Formed.{WellFormed}
+use Rattle.turning_points.specs.Points.{are-turned, at, azimuth, leg-at, signed-at}
+use Rattle.turning_points.specs.declared.arc.Leg.{Leg}
 use Rattle.plan.specs.Claims.{without}
 use Rattle.plan.specs.Plan.{Plannable, count, is-off, plan-azimuths, plan-minutes, reaches, straight, turning}
 use Rattle.plan.proofs.DayLaws.{azimuth-in, count-is, farthest-beyond, farthest-reached, legs, legs-most, not-after, reached-apart, reached-on, reached-when, some-legs, turning-before, turning-in, turning-last, turning-next, turning-rises}

@@ -9,8 +9,8 @@ use lib.IntN.{pos, ℤ}
 use lib.ListN.{List·getD-append, drop, getD, length, length-append, length-drop, take}
 use lib.Seq.{getD-append-add, getD-drop, getD-take, length-take-le}
 use Rattle.heading.specs.Heading.{is-reduced}
-use Rattle.proposal.specs.Claims.{WellFormed}
-use Rattle.proposal.specs.Points.{at, signed-at}
+use Rattle.turning_points.specs.Formed.{WellFormed}
+use Rattle.turning_points.specs.Points.{at, signed-at}
 use Rattle.plan.specs.Claims.{without}
 
 module _ {A : Type 0} (list : List A) (i : ℕ) (h : i < length list) where

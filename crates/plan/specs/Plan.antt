@@ -10,11 +10,11 @@ use Rattle.arctangent.specs.Direction.{angle-or, mark}
 use Rattle.day.specs.Curve.{azimuth-on, each-below, last-minute, minutes}
 use Rattle.day.specs.Search.{first-where}
 use Rattle.day.specs.declared.date.Date.{Date}
-use Rattle.proposal.specs.Arc.{are-opposite, distance, value-on}
-use Rattle.proposal.specs.Points.{are-reduced, are-turned, azimuth, nowhere, signed-at}
-use Rattle.proposal.specs.declared.arc.Leg.{Leg}
 use Rattle.sky_vectors.specs.declared.geocentric.Body.{Body}
 use Rattle.sky_vectors.specs.declared.station.Point.{Point}
+use Rattle.turning_points.specs.Arc.{are-opposite, distance, value-on}
+use Rattle.turning_points.specs.Points.{are-reduced, are-turned, azimuth, nowhere, signed-at}
+use Rattle.turning_points.specs.declared.arc.Leg.{Leg}
 
 -- ---- the day
 

@@ -1,16 +1,16 @@
 // From each turning point straight to the farthest minute that the tolerance allows.
 use day::curve::MINUTES;
-use proposal::arc::Leg;
-use proposal::arc::are_opposite;
-use proposal::arc::distance;
-use proposal::arc::value_on;
-use proposal::points::azimuth_at;
+use turning_points::arc::Leg;
+use turning_points::arc::are_opposite;
+use turning_points::arc::distance;
+use turning_points::arc::value_on;
+use turning_points::points::azimuth_at;
 ghost use mathlib.Core.List.{_++_};
 ghost use mathlib.Core.Path.{_≡_};
 ghost use Prim.Native.Nat.{_<_, _≤_};
 ghost use lib.ListN.{drop, length, set};
 ghost use Rattle.day.specs.Curve.{last-minute};
-ghost use Rattle.proposal.specs.Points.{signed-at};
+ghost use Rattle.turning_points.specs.Points.{signed-at};
 ghost use Rattle.plan.specs.Plan.{EachMinute, Plannable, count, farthest, plan-azimuths, plan-minutes, reaches, straight};
 
 // The leg from one minute of a day to another, between the day's azimuths.

@@ -18,10 +18,10 @@ use Rattle.day.specs.declared.date.Date.{Date}
 use Rattle.numbers.specs.declared.angle.Angle.{Angle}
 use Rattle.sky_vectors.specs.declared.geocentric.Body.{Body}
 use Rattle.sky_vectors.specs.declared.station.Point.{Point}
-use Rattle.proposal.specs.Arc.{distance}
+use Rattle.turning_points.proofs.PointLaws.{formed-when, never-opposite, turned-apart, well-formed}
+use Rattle.turning_points.specs.Arc.{distance}
 use Rattle.proposal.specs.Claims.{EveryFirstNamed, EveryProposalJudged, FirstNamed, Fits, Within}
 use Rattle.proposal.specs.Verdict.{JudgementAnswer, first-out, is-out, judgement, out-at, proposal-refusals, value-at}
-use Rattle.proposal.proofs.PointLaws.{formed-when, never-opposite, turned-apart, well-formed}
 use Rattle.proposal.proofs.VerdictLaws.{Unrefused, accepted-when, all-passed, before-31-below, fails-before, holds-there, out-most, unrefused}
 
 -- ---- out of tolerance, and within it

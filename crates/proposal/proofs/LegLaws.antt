@@ -13,11 +13,11 @@ use Rattle.day.proofs.SearchLaws.{before, clash, is-first, most, there}
 use Rattle.day.specs.Curve.{last-minute, minutes}
 use Rattle.day.specs.Search.{first-where}
 use Rattle.heading.proofs.HeadingLaws.{below-turn}
-use Rattle.proposal.specs.Arc.{OnLeg, value-on}
-use Rattle.proposal.specs.Claims.{WellFormed}
-use Rattle.proposal.specs.Points.{at, leg-at, signed-at}
+use Rattle.turning_points.proofs.ArcLaws.{at-start}
+use Rattle.turning_points.specs.Arc.{OnLeg, value-on}
+use Rattle.turning_points.specs.Formed.{WellFormed}
+use Rattle.turning_points.specs.Points.{at, leg-at, signed-at}
 use Rattle.proposal.specs.Verdict.{leg-of, value-at}
-use Rattle.proposal.proofs.ArcLaws.{at-start}
 
 module _ (list : List ℕ) (azimuths : List ℤ) (f : WellFormed list azimuths) where
   -- ---- a later point has no earlier minute

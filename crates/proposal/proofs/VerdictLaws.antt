@@ -25,11 +25,11 @@ use Rattle.request.specs.Request.{delta-limit, ut1-limit}
 use Rattle.sum_rules.specs.Instant.{minus}
 use Rattle.sky_vectors.specs.declared.geocentric.Body.{Body}
 use Rattle.sky_vectors.specs.declared.station.Point.{Point}
-use Rattle.proposal.specs.Points.{are-turned, is-formed}
+use Rattle.turning_points.proofs.SearchLaws.{by-cases}
+use Rattle.turning_points.specs.Points.{are-turned, is-formed}
 use Rattle.proposal.specs.Verdict.{JudgementAnswer, first-out, form-refusals, judgement, judgement-answer, out-at, proposal-refusals}
 use Rattle.proposal.specs.declared.judge.Judgement.{Judgement}
 use Rattle.proposal.specs.declared.judge.Judgement.the-variants.{Accepted, Out, Refused}
-use Rattle.proposal.proofs.SearchLaws.{by-cases}
 
 -- ---- one answer and no other: each is read back from its numbers
 from-numbers : JudgementAnswer → Judgement

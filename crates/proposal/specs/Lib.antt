@@ -1,5 +1,2 @@
-pub mod Arc
-pub mod Points
 pub mod Verdict
 pub mod Claims
-pub mod Cases

@@ -14,8 +14,8 @@ use Rattle.day.specs.Search.{first-where}
 use Rattle.day.specs.declared.date.Date.{Date}
 use Rattle.sky_vectors.specs.declared.geocentric.Body.{Body}
 use Rattle.sky_vectors.specs.declared.station.Point.{Point}
-use Rattle.proposal.specs.Arc.{distance, value-on}
-use Rattle.proposal.specs.Points.{are-turned, at, is-formed, leg-at}
+use Rattle.turning_points.specs.Arc.{distance, value-on}
+use Rattle.turning_points.specs.Points.{are-turned, at, is-formed, leg-at}
 use Rattle.proposal.specs.declared.judge.Judgement.{Judgement}
 use Rattle.proposal.specs.declared.judge.Judgement.the-variants.{Accepted, Out, Refused}
 

@@ -1,10 +1,4 @@
 // The watch's verdict on a proposal. Each minute's azimuth is worked once, and none is kept.
-use super::arc::distance;
-use super::arc::value_on;
-use super::points::are_turned;
-use super::points::is_formed;
-use super::points::leg_at;
-use super::points::minute_at;
 use arctangent::direction::Direction;
 use calendar::refusal::ProposalRefusal;
 use calendar::refusal::Refusal;
@@ -22,6 +16,12 @@ use sky_vectors::geocentric::Body;
 use sky_vectors::station::Point;
 use sky_vectors::station::Runner;
 use sky_vectors::station::runner_at;
+use turning_points::arc::distance;
+use turning_points::arc::value_on;
+use turning_points::points::are_turned;
+use turning_points::points::is_formed;
+use turning_points::points::leg_at;
+use turning_points::points::minute_at;
 ghost use mathlib.Core.Bool.{true};
 ghost use mathlib.Core.List.{_++_};
 ghost use mathlib.Core.Path.{_≡_};
@@ -34,7 +34,7 @@ ghost use Rattle.number_rules.specs.SineTable.{sines};
 ghost use Rattle.arctangent.specs.Direction.{Reduced};
 ghost use Rattle.calendar.specs.Refusal.{OneAnswer, first, verdict-number};
 ghost use Rattle.sky_vectors.specs.SkyRange.{Standing};
-ghost use Rattle.proposal.specs.Points.{is-formed};
+ghost use Rattle.turning_points.specs.Points.{is-formed};
 ghost use Rattle.proposal.specs.Verdict.{first-out, form-refusals, is-out, judgement, judgement-answer, leg-of};
 
 // 31 is a case of its own, since it carries the first minute out of tolerance.

@@ -1,4 +1,2 @@
 // A proposal: turning points that the phone sends instead of a strip, and the watch's verdict on them (02, Item 7).
-pub mod arc;
 pub mod judge;
-pub mod points;

@@ -8,7 +8,7 @@ use lib.ListN.{drop, length, set}
 use borrow.Author.Count.{below-more}
 use borrow.Author.Needs.{needs}
 use Rattle.day.specs.Curve.{each-below, last-minute, minutes}
-use Rattle.proposal.specs.Points.{signed-at}
+use Rattle.turning_points.specs.Points.{signed-at}
 use Rattle.plan.specs.Plan.{count, farthest, plan-azimuths, plan-minutes, turning}
 use Rattle.plan.proofs.DayLaws.{farthest-later, legs-are, turning-in, turning-late, turning-next}
 use Rattle.plan.proofs.FillLaws.{Filled, in-all, nothing-yet, one-more}

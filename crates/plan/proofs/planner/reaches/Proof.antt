@@ -9,11 +9,11 @@ use lib.IntN.{ℤ}
 use borrow.Author.Count.{below-more}
 use borrow.Author.Needs.{needs}
 use borrow.Author.Tests.{le-ltb, lt-ltb}
-use Rattle.proposal.proofs.ArcLaws.{value-below}
-use Rattle.proposal.proofs.SearchLaws.{somewhere}
-use Rattle.proposal.specs.Arc.{OnLeg, are-opposite, distance, value-on}
-use Rattle.proposal.specs.Points.{azimuth}
-use Rattle.proposal.specs.declared.arc.Leg.{Leg}
+use Rattle.turning_points.proofs.ArcLaws.{value-below}
+use Rattle.turning_points.proofs.SearchLaws.{somewhere}
+use Rattle.turning_points.specs.Arc.{OnLeg, are-opposite, distance, value-on}
+use Rattle.turning_points.specs.Points.{azimuth}
+use Rattle.turning_points.specs.declared.arc.Leg.{Leg}
 use Rattle.plan.specs.Plan.{is-off, reaches, straight}
 use Rattle.plan.proofs.DayLaws.{azimuth-in, day-leg, not-after, reached-when}
 use Rattle.plan.proofs.planner.reaches.Statement.{statement}

@@ -19,14 +19,14 @@ use Rattle.sky_vectors.proofs.PlaceLaws.{place-from-in-turns}
 use Rattle.sky_vectors.specs.Place.{place-from}
 use Rattle.sky_vectors.specs.SkyRange.{Reachable}
 use Rattle.sum_rules.specs.declared.instant.Instant.{Instant}
-use Rattle.proposal.specs.Arc.{OnLeg, value-on}
-use Rattle.proposal.specs.Claims.{WellFormed}
-use Rattle.proposal.specs.Points.{leg-at}
+use Rattle.turning_points.proofs.ArcLaws.{value-below}
+use Rattle.turning_points.proofs.PointLaws.{formed-tests, well-formed}
+use Rattle.turning_points.specs.Arc.{OnLeg, value-on}
+use Rattle.turning_points.specs.Formed.{WellFormed}
+use Rattle.turning_points.specs.Points.{leg-at}
+use Rattle.turning_points.specs.declared.arc.Leg.{Leg}
 use Rattle.proposal.specs.Verdict.{first-out, is-out, leg-of, out-at, value-at}
-use Rattle.proposal.specs.declared.arc.Leg.{Leg}
-use Rattle.proposal.proofs.ArcLaws.{value-below}
 use Rattle.proposal.proofs.LegLaws.{leg-start, leg-there, on-leg-of}
-use Rattle.proposal.proofs.PointLaws.{formed-tests, well-formed}
 use Rattle.proposal.proofs.judge.first_out.Statement.{statement}
 use Rattle.proposal.proofs.judge.first_out.Tie as tie
 

@@ -4,8 +4,8 @@ use mathlib.Core.Path.{_∙_, sym}
 use borrow.Author.Needs.{needs}
 use Rattle.calendar.proofs.RefusalLaws.{check, passed-first}
 use Rattle.calendar.specs.Refusal.{_unless_, first}
-use Rattle.proposal.specs.Points.{are-turned, is-formed}
-use Rattle.proposal.proofs.PointLaws.{formed-tests}
+use Rattle.turning_points.proofs.PointLaws.{formed-tests}
+use Rattle.turning_points.specs.Points.{are-turned, is-formed}
 use Rattle.proposal.proofs.judge.form_verdict.Statement.{statement}
 use Rattle.proposal.proofs.judge.form_verdict.Tie as tie
 

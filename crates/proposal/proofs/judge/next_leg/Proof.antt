@@ -3,9 +3,9 @@ use Prim.Native.Nat.{_+_, _<_}
 use native.Mathlib.Omega.{arith}
 use lib.ListN.{length}
 use borrow.Author.Needs.{needs}
-use Rattle.proposal.specs.Claims.{WellFormed}
+use Rattle.turning_points.proofs.PointLaws.{well-formed}
+use Rattle.turning_points.specs.Formed.{WellFormed}
 use Rattle.proposal.proofs.LegLaws.{leg-before-there, leg-next, leg-same}
-use Rattle.proposal.proofs.PointLaws.{well-formed}
 use Rattle.proposal.proofs.judge.next_leg.Statement.{statement}
 use Rattle.proposal.proofs.judge.next_leg.Tie as tie
 

@@ -1,0 +1,4 @@
+pub mod ArcLaws
+pub mod SearchLaws
+pub mod PointLaws
+pub mod CasesHold

@@ -1,0 +1,4 @@
+pub mod Arc
+pub mod Points
+pub mod Formed
+pub mod Cases
