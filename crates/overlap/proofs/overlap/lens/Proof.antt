@@ -1,4 +1,4 @@
--- `eclipse::overlap::lens` meets its contract.
+-- `overlap::overlap::lens` meets its contract.
 use mathlib.Core.Path.{_∙_, ap}
 use Prim.Native.Nat.{_+_, _-_, ℕ}
 use native.Mathlib.Omega.{arith}

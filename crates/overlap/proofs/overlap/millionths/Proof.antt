@@ -1,4 +1,4 @@
--- `eclipse::overlap::millionths` meets its contract.
+-- `overlap::overlap::millionths` meets its contract.
 use mathlib.Core.Bool.{false, true}
 use mathlib.Core.Path.{_∙_, _≡_, ap, subst, sym}
 use Prim.Native.Nat.{_/_, _<_, _≤_}

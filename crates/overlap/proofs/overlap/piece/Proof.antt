@@ -1,4 +1,4 @@
--- `eclipse::overlap::piece` meets its contract.
+-- `overlap::overlap::piece` meets its contract.
 use mathlib.Core.Path.{_∙_, _≡_, ap, ap₂, subst⁻¹}
 use Prim.Native.Nat.{_*_, _/_, _≤_, ℕ}
 use native.Mathlib.Omega.{arith}

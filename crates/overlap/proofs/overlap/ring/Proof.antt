@@ -1,4 +1,4 @@
--- `eclipse::overlap::ring` meets its contract.
+-- `overlap::overlap::ring` meets its contract.
 use mathlib.Core.Path.{sym}
 use Prim.Native.Nat.{_%_, _*_, _/_, _<_, _≤_, ℕ}
 use native.Mathlib.Nat.{div-le-of-le-mul, div-le-self, mod-lt, mul-le-mul}

@@ -1,4 +1,4 @@
--- `eclipse::overlap::share` meets its contract.
+-- `overlap::overlap::share` meets its contract.
 use mathlib.Core.Path.{_∙_, ap, sym}
 use borrow.Author.Needs.{needs}
 use Rattle.numbers.proofs.Machine.{passed}

@@ -1,4 +1,4 @@
--- `eclipse::overlap::sun_height` meets its contract.
+-- `overlap::overlap::sun_height` meets its contract.
 use native.Mathlib.Nat.{mul-le-mul}
 use native.Mathlib.Omega.{arith}
 use Prim.Native.Nat.{_+_, _-_, _≤_}

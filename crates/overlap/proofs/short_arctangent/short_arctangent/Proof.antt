@@ -1,4 +1,4 @@
--- `eclipse::short_arctangent::short_arctangent` meets its contract.
+-- `overlap::short_arctangent::short_arctangent` meets its contract.
 use mathlib.Core.Path.{_∙_, ap, ap₂, subst, sym}
 use Prim.Native.Nat.{_-_, _<_, _≤_}
 use native.Mathlib.Omega.{arith}
