@@ -9,8 +9,10 @@ use raddlehue_reference::*;
 #[path = "../../tests/proposal_lines.rs"]
 mod proposal_lines;
 mod random;
+mod spoilt;
 use proposal_lines::{proposal_lines, ProposalLine, Request};
 use random::Random;
+use spoilt::spoilt_days;
 
 const LAST: u32 = MINUTES as u32 - 1;
 const HALF: u64 = HALF_TURN as u64;
@@ -321,22 +323,11 @@ fn straight_overhead_is_not_compared() {
 
 #[test]
 fn the_request_is_judged_before_the_points() {
-    let (mut date, mut point) = (DATE, POINT);
     let refused = |date, point| judge(date, Body::Moon, point, Proposal { minutes: &[], azimuths: &[] }, 0);
-    assert_eq!(refused(date, point), Err((29, 0)));
-    for (number, spoil) in [(9, 9_001), (8, 900_000_001), (7, 1_800_000_001), (6, 80_001), (5, 10)] {
-        match number {
-            9 => point.height = spoil,
-            8 => point.latitude = spoil,
-            7 => point.longitude = spoil,
-            6 => date.delta_t = spoil,
-            _ => date.ut1 = spoil,
-        }
+    assert_eq!(refused(DATE, POINT), Err((29, 0)));
+    for (number, date, point) in spoilt_days(DATE, POINT) {
         assert_eq!(refused(date, point), Err((number, 0)));
     }
-    assert_eq!(refused(Date { month: 2, day: 30, ..date }, point), Err((3, 0)));
-    assert_eq!(refused(Date { month: 13, day: 32, ..date }, point), Err((2, 0)));
-    assert_eq!(refused(Date { year: 1899, month: 13, ..date }, point), Err((1, 0)));
 }
 
 // ---- what is asked of a planner
