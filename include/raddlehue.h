@@ -5,12 +5,15 @@
  * through a pointer, and **writes nothing where it refuses**; and beside it an inline function whose name ends in _of, which takes structs and returns the answer
  * as a struct, with the refusal in it and zeros elsewhere (but for the index of 13 and the minute of 31).
  *
- * Names say their unit: _e7 and _e8 are 1e-7 and 1e-8 degree, _e10 is 1e-10, _tenths are tenths of a second, _millionths are of the Sun's disk. Azimuth counts from
+ * Names say their unit: _e7 and _e8 are 1e-7 and 1e-8 degree, _e10 is 1e-10, _ms are milliseconds, _millionths are of the Sun's disk. Azimuth counts from
  * north over east (east is 90 degrees), longitude is east positive, latitude north positive, time is UTC in the Gregorian calendar and never a local zone, elevation
  * counts from the horizon upward.
  *
  * Since version 3 an azimuth may be absent: a body straight overhead, or straight underfoot, has none. A place says so by a flag beside it; a batch and the arctangent,
  * which give bare numbers, by RADDLEHUE_NO_DIRECTION_E8.
+ *
+ * Since version 4 every time is in milliseconds; it was in tenths of a second before, so that a number which is not multiplied by 100 is wrong. Each type that is filled with
+ * such numbers, each field, and each function that is handed a bare one has another name for it, which ends in _ms: what was written for version 3 does not compile.
  *
  * What is asked of the caller: a pointer points to as many numbers as its type or its length says, aligned as C aligns them; memories that are written do not
  * overlap others of the same call; about 8 KiB of stack (docs/FIGURES.md has the exact numbers), and beside it the caller's own: for a day 11.5 KB for the curve,
@@ -35,13 +38,13 @@ extern "C" {
 #endif
 
 /* The version of this header and of the archive beside it. The first number changes when old code must not compile. */
-#define RADDLEHUE_VERSION "3.2.0"
-#define RADDLEHUE_VERSION_MAJOR 3
-#define RADDLEHUE_VERSION_MINOR 2
+#define RADDLEHUE_VERSION "4.0.0"
+#define RADDLEHUE_VERSION_MAJOR 4
+#define RADDLEHUE_VERSION_MINOR 0
 #define RADDLEHUE_VERSION_PATCH 0
 
 /* Units of time to a second, and units of angle to a degree. */
-#define RADDLEHUE_SECOND 10
+#define RADDLEHUE_SECOND_MS 1000
 #define RADDLEHUE_DEGREE_E7 10000000
 #define RADDLEHUE_DEGREE_E8 100000000
 
@@ -98,16 +101,16 @@ RADDLEHUE_INLINE const char *raddlehue_refusal_text(uint32_t refusal)
     case RADDLEHUE_YEAR: return "the year is not 1900 to 2100";
     case RADDLEHUE_MONTH: return "the month is not 1 to 12";
     case RADDLEHUE_DAY: return "that month of the Gregorian calendar has no such day";
-    case RADDLEHUE_CLOCK: return "the time of the day is not hour 0 to 23, minute 0 to 59, second 0 to 59, tenth 0 to 9";
-    case RADDLEHUE_UT1: return "UT1 minus UTC is not -9 to 9 tenths of a second";
-    case RADDLEHUE_DELTA_T: return "delta-T is not -80,000 to 80,000 tenths of a second";
+    case RADDLEHUE_CLOCK: return "the time of the day is not hour 0 to 23, minute 0 to 59, second 0 to 59, millisecond 0 to 999";
+    case RADDLEHUE_UT1: return "UT1 minus UTC is not -900 to 900 milliseconds";
+    case RADDLEHUE_DELTA_T: return "delta-T is not -8,000,000 to 8,000,000 milliseconds";
     case RADDLEHUE_LONGITUDE: return "the longitude is not within 180 degrees";
     case RADDLEHUE_LATITUDE: return "the latitude is not within 90 degrees";
     case RADDLEHUE_HEIGHT: return "the height is not -500 to 9,000 metres";
     case RADDLEHUE_PRESSURE: return "the measured pressure is not 0 to 1200 mbar";
     case RADDLEHUE_TEMPERATURE: return "the measured temperature is not -80 to 80 degrees Celsius";
     case RADDLEHUE_SHORT_BUFFER: return "a buffer is shorter than the list of offsets";
-    case RADDLEHUE_TOO_LATE: return "a start plus offset lies after 2100-12-31 23:59:59.9 UTC";
+    case RADDLEHUE_TOO_LATE: return "a start plus offset lies after 2100-12-31 23:59:59.999 UTC";
     case RADDLEHUE_OPPOSITE: return "two azimuths half a turn apart have no middle";
     case RADDLEHUE_NOT_REDUCED: return "an azimuth is not from 0 up to but not 360 degrees";
     case RADDLEHUE_NOT_A_LINE: return "the line is not whole numbers with single spaces";
@@ -126,7 +129,7 @@ RADDLEHUE_INLINE const char *raddlehue_refusal_text(uint32_t refusal)
     case RADDLEHUE_UNKNOWN_BODY: return "the body is neither Sun nor Moon";
     case RADDLEHUE_UNKNOWN_AIR: return "the air is none of none, standard and measured";
     case RADDLEHUE_NO_ELEVATION: return "the elevation is not within 90 degrees";
-    case RADDLEHUE_OUT_OF_REACH: return "the instant is not within 31,904,733,600 tenths of a second of 2000-01-01 12:00";
+    case RADDLEHUE_OUT_OF_REACH: return "the instant is not within 3,190,473,360,000 milliseconds of 2000-01-01 12:00";
     case RADDLEHUE_NO_DISKS: return "the separation is not 0 to 180 degrees, the Sun's radius not 0.2 to 0.3 or the Moon's not 0 to 0.3";
     case RADDLEHUE_NO_STEP: return "the strip has no such step";
     case RADDLEHUE_NO_PLAN: return "there is no plan: a minute of the day has no azimuth, or two adjacent minutes are exactly opposite";
@@ -142,16 +145,16 @@ enum { RADDLEHUE_AIR_NONE = 0, RADDLEHUE_AIR_STANDARD = 1, RADDLEHUE_AIR_MEASURE
 
 /* A moment of UTC. */
 typedef struct {
-    int64_t year;            /* 1900 to 2100 */
-    int64_t month;           /* 1 to 12 */
-    int64_t day;             /* from 1 */
-    int64_t hour;            /* 0 to 23, UTC */
-    int64_t minute;          /* 0 to 59 */
-    int64_t second;          /* 0 to 59: a leap second is refused */
-    int64_t fraction_tenths; /* 0 to 9 */
-    int64_t ut1_tenths;      /* UT1 minus UTC, -9 to 9 */
-    int64_t delta_t_tenths;  /* delta-T, TT minus UT1: 67.0 s is 670; -80,000 to 80,000 */
-} raddlehue_start_t;
+    int64_t year;        /* 1900 to 2100 */
+    int64_t month;       /* 1 to 12 */
+    int64_t day;         /* from 1 */
+    int64_t hour;        /* 0 to 23, UTC */
+    int64_t minute;      /* 0 to 59 */
+    int64_t second;      /* 0 to 59: a leap second is refused */
+    int64_t fraction_ms; /* 0 to 999 */
+    int64_t ut1_ms;      /* UT1 minus UTC, -900 to 900 */
+    int64_t delta_t_ms;  /* delta-T, TT minus UT1: 67 s is 67,000; -8,000,000 to 8,000,000 */
+} raddlehue_start_ms_t;
 
 /* Where the observer stands. */
 typedef struct {
@@ -179,7 +182,7 @@ typedef struct {
 /* Against JPL's DE431 the Sun lies within 0.0002 degree and the Moon within 0.002 (docs/FIGURES.md), given the right UT1 and delta-T. The air does not change this
  * place, and a bad one is refused all the same. The flag and the place are both written, or neither is. Refused: 101, 102, then 1 to 11. */
 uint32_t raddlehue_place(
-    const raddlehue_start_t *start, uint32_t body, const raddlehue_point_t *point,
+    const raddlehue_start_ms_t *start, uint32_t body, const raddlehue_point_t *point,
     uint32_t air, double pressure_mbar, double temperature_celsius, uint32_t *has_azimuth, raddlehue_place_t *place);
 
 typedef struct {
@@ -190,7 +193,7 @@ typedef struct {
 } raddlehue_place_answer_t;
 
 RADDLEHUE_INLINE raddlehue_place_answer_t raddlehue_place_of(
-    raddlehue_start_t start, uint32_t body, raddlehue_point_t point, raddlehue_air_t air)
+    raddlehue_start_ms_t start, uint32_t body, raddlehue_point_t point, raddlehue_air_t air)
 {
     raddlehue_place_t place = {0, 0};
     raddlehue_place_answer_t answer;
@@ -216,7 +219,7 @@ typedef struct {
 
 /* has_azimuth is the place's. Refused: 101, 102, then 1 to 11. */
 uint32_t raddlehue_shown_place(
-    const raddlehue_start_t *start, uint32_t body, const raddlehue_point_t *point,
+    const raddlehue_start_ms_t *start, uint32_t body, const raddlehue_point_t *point,
     uint32_t air, double pressure_mbar, double temperature_celsius, uint32_t *has_azimuth, raddlehue_shown_place_t *shown);
 
 typedef struct {
@@ -228,7 +231,7 @@ typedef struct {
 } raddlehue_shown_place_answer_t;
 
 RADDLEHUE_INLINE raddlehue_shown_place_answer_t raddlehue_shown_place_of(
-    raddlehue_start_t start, uint32_t body, raddlehue_point_t point, raddlehue_air_t air)
+    raddlehue_start_ms_t start, uint32_t body, raddlehue_point_t point, raddlehue_air_t air)
 {
     raddlehue_shown_place_t shown = {0.0, 0.0, 0.0};
     raddlehue_shown_place_answer_t answer;
@@ -248,12 +251,12 @@ typedef struct {
     uint64_t count; /* how many entries of each buffer were written */
 } raddlehue_batch_t;
 
-/* Entry i of each buffer is the place at offset i. Where that has no azimuth, RADDLEHUE_NO_DIRECTION_E8 stands in the entry of the azimuths; the elevation is there as ever.
+/* Entry i of each buffer is the place at offset i, which counts from the start and reaches 49.7 days. Where that has no azimuth, RADDLEHUE_NO_DIRECTION_E8 stands in the entry of the azimuths; the elevation is there as ever.
  * What lies beyond the last offset is left alone, and a refused batch writes to neither buffer. `batch` is written where the batch is accepted, and where it is refused
  * by 13, for the index. A length counts entries, and one of 0 may come with a null pointer. Refused: 101, then 1 to 9, 12 and 13. */
-uint32_t raddlehue_batch(
-    const raddlehue_start_t *start, uint32_t body, const raddlehue_point_t *point,
-    const uint32_t *offsets_tenths, uint64_t offsets_length,
+uint32_t raddlehue_batch_ms(
+    const raddlehue_start_ms_t *start, uint32_t body, const raddlehue_point_t *point,
+    const uint32_t *offsets_ms, uint64_t offsets_length,
     int64_t *azimuths_e8, uint64_t azimuths_length,
     int64_t *elevations_e8, uint64_t elevations_length,
     raddlehue_batch_t *batch);
@@ -264,16 +267,16 @@ typedef struct {
     uint64_t count;
 } raddlehue_batch_answer_t;
 
-RADDLEHUE_INLINE raddlehue_batch_answer_t raddlehue_batch_of(
-    raddlehue_start_t start, uint32_t body, raddlehue_point_t point,
-    const uint32_t *offsets_tenths, uint64_t offsets_length,
+RADDLEHUE_INLINE raddlehue_batch_answer_t raddlehue_batch_ms_of(
+    raddlehue_start_ms_t start, uint32_t body, raddlehue_point_t point,
+    const uint32_t *offsets_ms, uint64_t offsets_length,
     int64_t *azimuths_e8, uint64_t azimuths_length,
     int64_t *elevations_e8, uint64_t elevations_length)
 {
     raddlehue_batch_t batch = {0, 0};
     raddlehue_batch_answer_t answer;
-    answer.refusal = raddlehue_batch(
-        &start, body, &point, offsets_tenths, offsets_length, azimuths_e8, azimuths_length, elevations_e8, elevations_length, &batch);
+    answer.refusal = raddlehue_batch_ms(
+        &start, body, &point, offsets_ms, offsets_length, azimuths_e8, azimuths_length, elevations_e8, elevations_length, &batch);
     answer.index = batch.index;
     answer.count = batch.count;
     return answer;
@@ -283,12 +286,12 @@ RADDLEHUE_INLINE raddlehue_batch_answer_t raddlehue_batch_of(
 
 /* A date of UTC, with UT1 minus UTC and delta-T for all of it. */
 typedef struct {
-    int64_t year;           /* 1900 to 2100 */
-    int64_t month;          /* 1 to 12 */
-    int64_t day;            /* from 1 */
-    int64_t ut1_tenths;     /* UT1 minus UTC, -9 to 9 */
-    int64_t delta_t_tenths; /* delta-T, TT minus UT1: 67.0 s is 670; -80,000 to 80,000 */
-} raddlehue_date_t;
+    int64_t year;       /* 1900 to 2100 */
+    int64_t month;      /* 1 to 12 */
+    int64_t day;        /* from 1 */
+    int64_t ut1_ms;     /* UT1 minus UTC, -900 to 900 */
+    int64_t delta_t_ms; /* delta-T, TT minus UT1: 67 s is 67,000; -8,000,000 to 8,000,000 */
+} raddlehue_date_ms_t;
 
 typedef struct {
     uint32_t has_rise;    /* 1, or 0 where the body does not rise on this date */
@@ -303,13 +306,13 @@ typedef struct {
 /* Where a body rises and sets, in 1e-8 degree without refraction: -0.8333 degree, the usual centre of the Sun at sunrise. */
 #define RADDLEHUE_RISE_SET_E8 (-83330000)
 
-/* Entry m of the curve, which has RADDLEHUE_DAY_MINUTES, is the elevation without refraction m minutes after 00:00:00.0 UTC. The body rises at the first minute at which
+/* Entry m of the curve, which has RADDLEHUE_DAY_MINUTES, is the elevation without refraction m minutes after 00:00:00 UTC. The body rises at the first minute at which
  * it is at or above RADDLEHUE_RISE_SET_E8 while at the minute before it is below; setting is the reverse. The minute before 0 is 23:59 of the day before, with the same
  * UT1 minus UTC and delta-T; 1900-01-01 has none, so that the body neither rises nor sets at its minute 0. There is no rise exactly where no minute is such a one, and no
  * set likewise; where there is neither, the whole curve lies on one side, and its entry 0 tells whether the body stays up or down. Refused: 101, then 1 to 3, then 5
  * to 9. */
 uint32_t raddlehue_day(
-    const raddlehue_date_t *date, uint32_t body, const raddlehue_point_t *point,
+    const raddlehue_date_ms_t *date, uint32_t body, const raddlehue_point_t *point,
     int64_t *elevations_e8, raddlehue_rise_set_t *rise_set);
 
 typedef struct {
@@ -321,7 +324,7 @@ typedef struct {
 } raddlehue_day_answer_t;
 
 RADDLEHUE_INLINE raddlehue_day_answer_t raddlehue_day_of(
-    raddlehue_date_t date, uint32_t body, raddlehue_point_t point, int64_t *elevations_e8)
+    raddlehue_date_ms_t date, uint32_t body, raddlehue_point_t point, int64_t *elevations_e8)
 {
     raddlehue_rise_set_t rise_set = {0, 0, 0, 0};
     raddlehue_day_answer_t answer;
@@ -362,10 +365,10 @@ typedef struct {
     int64_t step_minutes; /* 1, 2, 5 or 10 */
 } raddlehue_strip_t;
 
-/* A day's azimuths for a strip: entry i is the body's azimuth i steps after 00:00:00.0 UTC of the date. Entries behind the last step are left alone. `count` is
+/* A day's azimuths for a strip: entry i is the body's azimuth i steps after 00:00:00 UTC of the date. Entries behind the last step are left alone. `count` is
  * how many were written. Refused: 101, then 1 to 3, 5 to 9, 25, and 28 where there are fewer entries than steps. */
 uint32_t raddlehue_day_azimuths(
-    const raddlehue_date_t *date, uint32_t body, const raddlehue_point_t *point, int64_t step_minutes,
+    const raddlehue_date_ms_t *date, uint32_t body, const raddlehue_point_t *point, int64_t step_minutes,
     uint32_t *azimuths_e7, uint64_t azimuths_length, uint64_t *count);
 
 typedef struct {
@@ -374,7 +377,7 @@ typedef struct {
 } raddlehue_day_azimuths_answer_t;
 
 RADDLEHUE_INLINE raddlehue_day_azimuths_answer_t raddlehue_day_azimuths_of(
-    raddlehue_date_t date, uint32_t body, raddlehue_point_t point, int64_t step_minutes, uint32_t *azimuths_e7, uint64_t azimuths_length)
+    raddlehue_date_ms_t date, uint32_t body, raddlehue_point_t point, int64_t step_minutes, uint32_t *azimuths_e7, uint64_t azimuths_length)
 {
     raddlehue_day_azimuths_answer_t answer;
     answer.count = 0;
@@ -479,7 +482,7 @@ RADDLEHUE_INLINE raddlehue_strip_find_answer_t raddlehue_strip_find_of(
 /* The watch's verdict. The points are only read. `out_minute`, the first minute out of tolerance, is written where the refusal is 31, and nowhere else. A length counts
  * entries, and one of 0 may come with a null pointer. Refused: 101, then 1 to 3, 5 to 9, 29 (also where one list is longer than the other), 30 and 31. */
 uint32_t raddlehue_judge(
-    const raddlehue_date_t *date, uint32_t body, const raddlehue_point_t *point, uint64_t tolerance_e8,
+    const raddlehue_date_ms_t *date, uint32_t body, const raddlehue_point_t *point, uint64_t tolerance_e8,
     const uint32_t *minutes, uint64_t minutes_length, const int64_t *azimuths_e8, uint64_t azimuths_length,
     uint32_t *out_minute);
 
@@ -489,7 +492,7 @@ typedef struct {
 } raddlehue_judge_answer_t;
 
 RADDLEHUE_INLINE raddlehue_judge_answer_t raddlehue_judge_of(
-    raddlehue_date_t date, uint32_t body, raddlehue_point_t point, uint64_t tolerance_e8,
+    raddlehue_date_ms_t date, uint32_t body, raddlehue_point_t point, uint64_t tolerance_e8,
     const uint32_t *minutes, uint64_t minutes_length, const int64_t *azimuths_e8, uint64_t azimuths_length)
 {
     raddlehue_judge_answer_t answer;
@@ -504,7 +507,7 @@ RADDLEHUE_INLINE raddlehue_judge_answer_t raddlehue_judge_of(
  * For the phone: some 12 KB of stack more than the others take, 1,440 azimuths, and up to 500 million comparisons, on real days about a million (docs/FIGURES.md has the
  * times). Refused: 101, then 1 to 3, 5 to 9, and last 107, no plan: exactly where a minute of the day has no azimuth or two adjacent minutes are exactly opposite. */
 uint32_t raddlehue_plan(
-    const raddlehue_date_t *date, uint32_t body, const raddlehue_point_t *point, uint64_t tolerance_e8,
+    const raddlehue_date_ms_t *date, uint32_t body, const raddlehue_point_t *point, uint64_t tolerance_e8,
     uint32_t *minutes, int64_t *azimuths_e8, uint64_t *count);
 
 typedef struct {
@@ -513,7 +516,7 @@ typedef struct {
 } raddlehue_plan_answer_t;
 
 RADDLEHUE_INLINE raddlehue_plan_answer_t raddlehue_plan_of(
-    raddlehue_date_t date, uint32_t body, raddlehue_point_t point, uint64_t tolerance_e8, uint32_t *minutes, int64_t *azimuths_e8)
+    raddlehue_date_ms_t date, uint32_t body, raddlehue_point_t point, uint64_t tolerance_e8, uint32_t *minutes, int64_t *azimuths_e8)
 {
     raddlehue_plan_answer_t answer;
     answer.count = 0;
@@ -534,7 +537,7 @@ typedef struct {
  * and the share is 1,000,000, where the Moon's radius is at least the Sun's and the separation at most their difference; where the Moon's is the smaller, a ring is left there, whose share is a floor.
  * Elsewhere the share is within 10 millionths of the area of the two circles, and next to a contact may round to 0 or to 1,000,000: separation and radii tell the contacts. The horizon does not enter:
  * raddlehue_place says whether the Sun is up. Against JPL's DE431 the Moon lies within 0.002 degree (docs/FIGURES.md). Refused: 1 to 9. */
-uint32_t raddlehue_eclipse(const raddlehue_start_t *start, const raddlehue_point_t *point, raddlehue_eclipse_t *eclipse);
+uint32_t raddlehue_eclipse(const raddlehue_start_ms_t *start, const raddlehue_point_t *point, raddlehue_eclipse_t *eclipse);
 
 typedef struct {
     uint32_t refusal;
@@ -544,7 +547,7 @@ typedef struct {
     int64_t share_millionths;
 } raddlehue_eclipse_answer_t;
 
-RADDLEHUE_INLINE raddlehue_eclipse_answer_t raddlehue_eclipse_of(raddlehue_start_t start, raddlehue_point_t point)
+RADDLEHUE_INLINE raddlehue_eclipse_answer_t raddlehue_eclipse_of(raddlehue_start_ms_t start, raddlehue_point_t point)
 {
     raddlehue_eclipse_t eclipse = {0, 0, 0, 0};
     raddlehue_eclipse_answer_t answer;
@@ -630,26 +633,26 @@ RADDLEHUE_INLINE raddlehue_day_count_answer_t raddlehue_day_count_of(int64_t yea
 
 /* A moment in both scales, from 2000-01-01 12:00: UT turns the Earth, TT moves the Sun and the Moon. The sums below ask for them. */
 typedef struct {
-    int64_t ut_tenths;
-    int64_t tt_tenths;
+    int64_t ut_ms;
+    int64_t tt_ms;
 } raddlehue_instant_t;
 
 /* Refused: 1 to 6. */
-uint32_t raddlehue_instant(const raddlehue_start_t *start, raddlehue_instant_t *instant);
+uint32_t raddlehue_instant(const raddlehue_start_ms_t *start, raddlehue_instant_t *instant);
 
 typedef struct {
     uint32_t refusal;
-    int64_t ut_tenths;
-    int64_t tt_tenths;
+    int64_t ut_ms;
+    int64_t tt_ms;
 } raddlehue_instant_answer_t;
 
-RADDLEHUE_INLINE raddlehue_instant_answer_t raddlehue_instant_of(raddlehue_start_t start)
+RADDLEHUE_INLINE raddlehue_instant_answer_t raddlehue_instant_of(raddlehue_start_ms_t start)
 {
     raddlehue_instant_t instant = {0, 0};
     raddlehue_instant_answer_t answer;
     answer.refusal = raddlehue_instant(&start, &instant);
-    answer.ut_tenths = instant.ut_tenths;
-    answer.tt_tenths = instant.tt_tenths;
+    answer.ut_ms = instant.ut_ms;
+    answer.tt_ms = instant.tt_ms;
     return answer;
 }
 
@@ -662,7 +665,7 @@ typedef struct {
     int64_t distance_metres; /* from the Earth's centre */
 } raddlehue_moon_sums_t;
 
-uint32_t raddlehue_moon_sums(int64_t tt_tenths, raddlehue_moon_sums_t *sums);
+uint32_t raddlehue_moon_sums_ms(int64_t tt_ms, raddlehue_moon_sums_t *sums);
 
 typedef struct {
     uint32_t refusal;
@@ -671,11 +674,11 @@ typedef struct {
     int64_t distance_metres;
 } raddlehue_moon_sums_answer_t;
 
-RADDLEHUE_INLINE raddlehue_moon_sums_answer_t raddlehue_moon_sums_of(int64_t tt_tenths)
+RADDLEHUE_INLINE raddlehue_moon_sums_answer_t raddlehue_moon_sums_ms_of(int64_t tt_ms)
 {
     raddlehue_moon_sums_t sums = {0, 0, 0};
     raddlehue_moon_sums_answer_t answer;
-    answer.refusal = raddlehue_moon_sums(tt_tenths, &sums);
+    answer.refusal = raddlehue_moon_sums_ms(tt_ms, &sums);
     answer.longitude_e8 = sums.longitude_e8;
     answer.latitude_e8 = sums.latitude_e8;
     answer.distance_metres = sums.distance_metres;
@@ -689,7 +692,7 @@ typedef struct {
     int64_t radius_au_e10;         /* from the Sun's centre */
 } raddlehue_sun_sums_t;
 
-uint32_t raddlehue_sun_sums(int64_t tt_tenths, raddlehue_sun_sums_t *sums);
+uint32_t raddlehue_sun_sums_ms(int64_t tt_ms, raddlehue_sun_sums_t *sums);
 
 typedef struct {
     uint32_t refusal;
@@ -698,11 +701,11 @@ typedef struct {
     int64_t radius_au_e10;
 } raddlehue_sun_sums_answer_t;
 
-RADDLEHUE_INLINE raddlehue_sun_sums_answer_t raddlehue_sun_sums_of(int64_t tt_tenths)
+RADDLEHUE_INLINE raddlehue_sun_sums_answer_t raddlehue_sun_sums_ms_of(int64_t tt_ms)
 {
     raddlehue_sun_sums_t sums = {0, 0, 0};
     raddlehue_sun_sums_answer_t answer;
-    answer.refusal = raddlehue_sun_sums(tt_tenths, &sums);
+    answer.refusal = raddlehue_sun_sums_ms(tt_ms, &sums);
     answer.longitude_radians_e10 = sums.longitude_radians_e10;
     answer.latitude_radians_e10 = sums.latitude_radians_e10;
     answer.radius_au_e10 = sums.radius_au_e10;
@@ -715,7 +718,7 @@ typedef struct {
     int64_t true_obliquity_e8; /* of the ecliptic, the nutation in it */
 } raddlehue_nutation_t;
 
-uint32_t raddlehue_nutation(int64_t tt_tenths, raddlehue_nutation_t *nutation);
+uint32_t raddlehue_nutation_ms(int64_t tt_ms, raddlehue_nutation_t *nutation);
 
 typedef struct {
     uint32_t refusal;
@@ -724,11 +727,11 @@ typedef struct {
     int64_t true_obliquity_e8;
 } raddlehue_nutation_answer_t;
 
-RADDLEHUE_INLINE raddlehue_nutation_answer_t raddlehue_nutation_of(int64_t tt_tenths)
+RADDLEHUE_INLINE raddlehue_nutation_answer_t raddlehue_nutation_ms_of(int64_t tt_ms)
 {
     raddlehue_nutation_t nutation = {0, 0, 0};
     raddlehue_nutation_answer_t answer;
-    answer.refusal = raddlehue_nutation(tt_tenths, &nutation);
+    answer.refusal = raddlehue_nutation_ms(tt_ms, &nutation);
     answer.longitude_e8 = nutation.longitude_e8;
     answer.obliquity_e8 = nutation.obliquity_e8;
     answer.true_obliquity_e8 = nutation.true_obliquity_e8;
@@ -736,18 +739,18 @@ RADDLEHUE_INLINE raddlehue_nutation_answer_t raddlehue_nutation_of(int64_t tt_te
 }
 
 /* Mean sidereal time at Greenwich, 0 to 35,999,999,999. */
-uint32_t raddlehue_mean_sidereal(int64_t ut_tenths, int64_t *sidereal_e8);
+uint32_t raddlehue_mean_sidereal_ms(int64_t ut_ms, int64_t *sidereal_e8);
 
 typedef struct {
     uint32_t refusal;
     int64_t sidereal_e8;
 } raddlehue_mean_sidereal_answer_t;
 
-RADDLEHUE_INLINE raddlehue_mean_sidereal_answer_t raddlehue_mean_sidereal_of(int64_t ut_tenths)
+RADDLEHUE_INLINE raddlehue_mean_sidereal_answer_t raddlehue_mean_sidereal_ms_of(int64_t ut_ms)
 {
     raddlehue_mean_sidereal_answer_t answer;
     answer.sidereal_e8 = 0;
-    answer.refusal = raddlehue_mean_sidereal(ut_tenths, &answer.sidereal_e8);
+    answer.refusal = raddlehue_mean_sidereal_ms(ut_ms, &answer.sidereal_e8);
     return answer;
 }
 
@@ -763,6 +766,19 @@ int64_t raddlehue_arctangent(int64_t y, int64_t x);
 
 /* The greatest whole number whose square is not above the given one. */
 uint64_t raddlehue_root(uint64_t square);
+
+/* ---- names of version 3 that took tenths of a second: none can be called, not even where a C compiler lets an unknown function pass */
+
+#define raddlehue_batch "call raddlehue_batch_ms, with milliseconds"
+#define raddlehue_batch_of "call raddlehue_batch_ms_of, with milliseconds"
+#define raddlehue_moon_sums "call raddlehue_moon_sums_ms, with milliseconds"
+#define raddlehue_moon_sums_of "call raddlehue_moon_sums_ms_of, with milliseconds"
+#define raddlehue_sun_sums "call raddlehue_sun_sums_ms, with milliseconds"
+#define raddlehue_sun_sums_of "call raddlehue_sun_sums_ms_of, with milliseconds"
+#define raddlehue_nutation "call raddlehue_nutation_ms, with milliseconds"
+#define raddlehue_nutation_of "call raddlehue_nutation_ms_of, with milliseconds"
+#define raddlehue_mean_sidereal "call raddlehue_mean_sidereal_ms, with milliseconds"
+#define raddlehue_mean_sidereal_of "call raddlehue_mean_sidereal_ms_of, with milliseconds"
 
 #ifdef __cplusplus
 }

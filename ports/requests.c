@@ -54,7 +54,7 @@ typedef struct {
 } range_t;
 
 static const range_t FIELDS[12] = {
-    {1900, 2100}, {1, 12}, {1, 28}, {0, 23}, {0, 59}, {0, 59}, {0, 9}, {-9, 9}, {-80000, 80000},
+    {1900, 2100}, {1, 12}, {1, 28}, {0, 23}, {0, 59}, {0, 59}, {0, 999}, {-900, 900}, {-8000000, 8000000},
     {-1800000000, 1800000000}, {-900000000, 900000000}, {-500, 9000}};
 
 /* One request in eight has a number outside its range. */
@@ -162,7 +162,7 @@ typedef struct {
 } air_t;
 
 /* A start of nine numbers and a point of three lie as the header's structs do. */
-static const raddlehue_start_t *start_of(const int64_t n[12]) { return (const raddlehue_start_t *)(const void *)n; }
+static const raddlehue_start_ms_t *start_of(const int64_t n[12]) { return (const raddlehue_start_ms_t *)(const void *)n; }
 static const raddlehue_point_t *point_of(const int64_t n[12]) { return (const raddlehue_point_t *)(const void *)(n + 9); }
 
 static void show_request(const char *what, const int64_t n[12], uint32_t body, air_t air) {
@@ -192,12 +192,12 @@ static void show_batch(const int64_t n[12], uint32_t body, const uint32_t *offse
     for (int i = 0; i < OFFSETS + 2; i++) {
         buffer[0][i] = -7, buffer[1][i] = -8;
     }
-    name("batch"), numbers(n, 9), word(body), numbers(n + 9, 3), word(count);
+    name("batch_ms"), numbers(n, 9), word(body), numbers(n + 9, 3), word(count);
     for (uint64_t i = 0; i < count; i++) {
         word(offsets[i]);
     }
     word(azimuths), word(elevations);
-    refusal = raddlehue_batch(
+    refusal = raddlehue_batch_ms(
         start_of(n), body, point_of(n), count ? offsets : 0, count, azimuths ? buffer[0] : 0, azimuths, elevations ? buffer[1] : 0, elevations, lend());
     show_lent(refusal, 2);
     numbers(buffer[0], OFFSETS + 2), numbers(buffer[1], OFFSETS + 2), end_line();
@@ -228,7 +228,7 @@ static void show_long(const void *memory, unsigned width, int cells) {
 }
 
 /* A day's eight numbers: a date of five and a point of three, as the header's structs lie. */
-static const raddlehue_date_t *date_of(const int64_t n[8]) { return (const raddlehue_date_t *)(const void *)n; }
+static const raddlehue_date_ms_t *date_of(const int64_t n[8]) { return (const raddlehue_date_ms_t *)(const void *)n; }
 static const raddlehue_point_t *point_of_day(const int64_t n[8]) { return (const raddlehue_point_t *)(const void *)(n + 5); }
 
 static void name_day(const char *what, const int64_t n[8], uint32_t body) { name(what), numbers(n, 5), word(body), numbers(n + 5, 3); }
@@ -288,7 +288,7 @@ static const uint8_t *put_strip(uint8_t *bytes, const strip_t *strip) {
 
 /* A day's azimuths; and where there are any the first of them, and the strip that is written of them. */
 static void show_day_azimuths(const int64_t n[8], uint32_t body, int64_t step, uint64_t length) {
-    const raddlehue_date_t *date = date_of(n);
+    const raddlehue_date_ms_t *date = date_of(n);
     const raddlehue_point_t *point = point_of_day(n);
     uint32_t refusal;
     poison(azimuths, sizeof azimuths), poison(written, sizeof written);
@@ -362,7 +362,7 @@ static void show_judge(const int64_t n[8], uint32_t body, uint64_t tolerance, co
 
 /* A plan, which lies where a day's azimuths and its curve do; and where there is one the verdict on it, and on it without the point in its middle. */
 static void show_plan(const int64_t n[8], uint32_t body, uint64_t tolerance) {
-    const raddlehue_date_t *date = date_of(n);
+    const raddlehue_date_ms_t *date = date_of(n);
     const raddlehue_point_t *point = point_of_day(n);
     uint32_t *minutes = &azimuths[SIDE], refusal;
     int64_t *directions = (int64_t *)&curve[SIDE];
@@ -412,14 +412,14 @@ static void show_day_count(int64_t year, int64_t month, int64_t day) {
 }
 
 static void show_sums(int64_t n) {
-    name("moon_sums"), word((uint64_t)n);
-    show_lent(raddlehue_moon_sums(n, lend()), 3), end_line();
-    name("sun_sums"), word((uint64_t)n);
-    show_lent(raddlehue_sun_sums(n, lend()), 3), end_line();
-    name("nutation"), word((uint64_t)n);
-    show_lent(raddlehue_nutation(n, lend()), 3), end_line();
-    name("mean_sidereal"), word((uint64_t)n);
-    show_lent(raddlehue_mean_sidereal(n, lend()), 1), end_line();
+    name("moon_sums_ms"), word((uint64_t)n);
+    show_lent(raddlehue_moon_sums_ms(n, lend()), 3), end_line();
+    name("sun_sums_ms"), word((uint64_t)n);
+    show_lent(raddlehue_sun_sums_ms(n, lend()), 3), end_line();
+    name("nutation_ms"), word((uint64_t)n);
+    show_lent(raddlehue_nutation_ms(n, lend()), 3), end_line();
+    name("mean_sidereal_ms"), word((uint64_t)n);
+    show_lent(raddlehue_mean_sidereal_ms(n, lend()), 1), end_line();
 }
 
 static void show_sines(int64_t x) {
@@ -435,8 +435,9 @@ static void show_root(uint64_t x) { name("root"), word(x), name("->"), word(radd
 
 /* ---- random requests */
 
-static uint64_t random_bits(int64_t lo_tenths, int64_t hi_tenths) {
-    return below(16) ? bits_of((double)mostly(lo_tenths, hi_tenths) / 10.0) : next();
+/* A double with one decimal between two whole numbers, or any bits. */
+static uint64_t random_bits(int64_t lo, int64_t hi) {
+    return below(16) ? bits_of((double)mostly(10 * lo, 10 * hi) / 10.0) : next();
 }
 
 static uint32_t code(uint32_t known) {
@@ -444,7 +445,9 @@ static uint32_t code(uint32_t known) {
     return below(16) ? any % known : any >> below(32);
 }
 
+/* Offsets reach 49.7 days: one batch in four starts so near the end of all that they may pass it. */
 static void random_batch(const int64_t n[12], uint32_t body) {
+    int64_t late[12];
     uint32_t offsets[OFFSETS];
     uint64_t count = below(OFFSETS + 1);
     uint64_t azimuths = below(8) ? OFFSETS : below(OFFSETS), elevations = below(8) ? OFFSETS : below(OFFSETS);
@@ -452,7 +455,13 @@ static void random_batch(const int64_t n[12], uint32_t body) {
         uint32_t any = (uint32_t)next();
         offsets[i] = any >> below(32);
     }
-    show_batch(n, body, offsets, count, azimuths, elevations);
+    for (int i = 0; i < 12; i++) {
+        late[i] = n[i];
+    }
+    if (below(4) == 0) {
+        late[0] = 2100, late[1] = 12, late[2] = between(1, 31);
+    }
+    show_batch(late, body, offsets, count, azimuths, elevations);
 }
 
 /* A day's numbers are a request's without its clock. */
@@ -750,8 +759,8 @@ void run_random(uint32_t count, uint64_t s) {
         int64_t n[12], x, y;
         air_t air;
         air.kind = code(3);
-        air.pressure = random_bits(0, 12000);
-        air.temperature = random_bits(-800, 800);
+        air.pressure = random_bits(0, 1200);
+        air.temperature = random_bits(-80, 80);
         random_request(n);
         show_place(n, RADDLEHUE_SUN, air);
         show_place(n, RADDLEHUE_MOON, air);
@@ -774,7 +783,7 @@ void run_random(uint32_t count, uint64_t s) {
         /* one draw to a statement: C does not say in which order arguments are worked out */
         n[0] = mostly(1900, 2100), n[1] = mostly(1, 12), n[2] = mostly(1, 31);
         show_day_count(n[0], n[1], n[2]);
-        show_sums(mostly(-31904733600, 31904733600));
+        show_sums(mostly(-3190473360000, 3190473360000));
         x = (int64_t)next(), y = (int64_t)next();
         x >>= below(64), y >>= below(64);
         show_sines(x), show_arctangent(y, x), show_root((uint64_t)x);

@@ -27,7 +27,7 @@ extern "C" {
         has_azimuth: *mut u32,
         shown: *mut [f64; 3],
     ) -> u32;
-    pub fn raddlehue_batch(
+    pub fn raddlehue_batch_ms(
         start: &[i64; 9],
         body: u32,
         point: &[i64; 3],
@@ -95,10 +95,10 @@ extern "C" {
     pub fn raddlehue_refraction(elevation: i64, air: u32, pressure: f64, temperature: f64, degrees: *mut f64) -> u32;
     pub fn raddlehue_day_count(year: i64, month: i64, day: i64, days: *mut i64) -> u32;
     pub fn raddlehue_instant(start: &[i64; 9], instant: *mut [i64; 2]) -> u32;
-    pub fn raddlehue_moon_sums(tt: i64, sums: *mut [i64; 3]) -> u32;
-    pub fn raddlehue_sun_sums(tt: i64, sums: *mut [i64; 3]) -> u32;
-    pub fn raddlehue_nutation(tt: i64, nutation: *mut [i64; 3]) -> u32;
-    pub fn raddlehue_mean_sidereal(ut: i64, sidereal: *mut i64) -> u32;
+    pub fn raddlehue_moon_sums_ms(tt: i64, sums: *mut [i64; 3]) -> u32;
+    pub fn raddlehue_sun_sums_ms(tt: i64, sums: *mut [i64; 3]) -> u32;
+    pub fn raddlehue_nutation_ms(tt: i64, nutation: *mut [i64; 3]) -> u32;
+    pub fn raddlehue_mean_sidereal_ms(ut: i64, sidereal: *mut i64) -> u32;
     pub fn raddlehue_sine(angle: i64) -> i64;
     pub fn raddlehue_cosine(angle: i64) -> i64;
     pub fn raddlehue_arctangent(y: i64, x: i64) -> i64;
@@ -163,7 +163,7 @@ fn poisoned<const N: usize>(call: impl FnOnce(*mut [i64; N]) -> u32) -> Answer<[
 }
 
 // A request that nothing refuses: the nine numbers of a start and the three of a point; and what refuses each of these where it is out of all range.
-pub const GOOD_REQUEST: [i64; 12] = [2024, 2, 29, 12, 30, 15, 5, -3, 692, 1_122_334_455, -455_443_322, 120];
+pub const GOOD_REQUEST: [i64; 12] = [2024, 2, 29, 12, 30, 15, 567, -321, 69_184, 1_122_334_455, -455_443_322, 120];
 const REQUEST_REFUSALS: [u32; 12] = [1, 2, 3, 4, 4, 4, 4, 5, 6, 7, 8, 9];
 
 // The least and the greatest number in each field, with what refuses it; before it all are good, and after it none need be.
@@ -228,7 +228,7 @@ pub fn batch(numbers: &[i64; 12], body: u32, offsets: &[u32], azimuths: &mut [i6
     let (offset, offsets_length) = handed(offsets);
     let ((azimuth, azimuths_length), (elevation, elevations_length)) = (handed_mut(azimuths), handed_mut(elevations));
     poisoned(|at| unsafe {
-        raddlehue_batch(start, body, point, offset, offsets_length, azimuth, azimuths_length, elevation, elevations_length, at.cast())
+        raddlehue_batch_ms(start, body, point, offset, offsets_length, azimuth, azimuths_length, elevation, elevations_length, at.cast())
     })
 }
 
@@ -257,6 +257,22 @@ pub fn day(numbers: &[i64; 8], body: u32) -> Answer<Day> {
 pub fn at_minute(numbers: &[i64; 8], minute: usize) -> [i64; 12] {
     let [year, month, day, ut1, delta_t, longitude, latitude, height] = *numbers;
     [year, month, day, minute as i64 / 60, minute as i64 % 60, 0, 0, ut1, delta_t, longitude, latitude, height]
+}
+
+// Times of one day, in milliseconds from its midnight.
+pub const MINUTE_MS: i64 = 60_000;
+pub const LAST_OF_DAY_MS: i64 = 1440 * MINUTE_MS - 1;
+
+// The clock of a place's twelve numbers.
+pub fn clock_ms(numbers: &[i64; 12]) -> i64 {
+    (60 * numbers[3] + numbers[4]) * MINUTE_MS + 1000 * numbers[5] + numbers[6]
+}
+
+// The same numbers at another time of the day.
+pub fn at_ms(numbers: &[i64; 12], ms: i64) -> [i64; 12] {
+    let mut moved = *numbers;
+    moved[3..7].copy_from_slice(&[ms / (60 * MINUTE_MS), ms / MINUTE_MS % 60, ms / 1000 % 60, ms % 1000]);
+    moved
 }
 
 // A slice as C is handed it; an empty one has a null pointer.
@@ -378,17 +394,17 @@ pub fn instant(start: &[i64; 9]) -> Answer<[i64; 2]> {
 }
 
 pub fn moon_sums(tt: i64) -> Answer<[i64; 3]> {
-    poisoned(|at| unsafe { raddlehue_moon_sums(tt, at) })
+    poisoned(|at| unsafe { raddlehue_moon_sums_ms(tt, at) })
 }
 
 pub fn sun_sums(tt: i64) -> Answer<[i64; 3]> {
-    poisoned(|at| unsafe { raddlehue_sun_sums(tt, at) })
+    poisoned(|at| unsafe { raddlehue_sun_sums_ms(tt, at) })
 }
 
 pub fn nutation(tt: i64) -> Answer<[i64; 3]> {
-    poisoned(|at| unsafe { raddlehue_nutation(tt, at) })
+    poisoned(|at| unsafe { raddlehue_nutation_ms(tt, at) })
 }
 
 pub fn mean_sidereal(ut: i64) -> Answer<i64> {
-    lent(POISON, |at| unsafe { raddlehue_mean_sidereal(ut, at) })
+    lent(POISON, |at| unsafe { raddlehue_mean_sidereal_ms(ut, at) })
 }

@@ -9,7 +9,7 @@ use archive::*;
 const LINES: usize = 81;
 
 // A request that nothing refuses: the five numbers of a date and the three of a point.
-const GOOD: [i64; 8] = [2024, 2, 29, -3, 692, 1_122_334_455, -455_443_322, 120];
+const GOOD: [i64; 8] = [2024, 2, 29, -300, 69_200, 1_122_334_455, -455_443_322, 120];
 
 // What refuses each of these numbers where it is out of all range.
 const REFUSALS: [u32; 8] = [1, 2, 3, 5, 6, 7, 8, 9];

@@ -4,7 +4,7 @@ use std::env;
 mod program;
 use program::{printed, vectors};
 
-const NUMBERS: &str = "2003 10 17 0 670 -1051786000 397424760 1830";
+const NUMBERS: &str = "2003 10 17 0 67000 -1051786000 397424760 1830";
 const SUN: &str = "13:13 00:21\n";
 const OTHER: &str = "refused 16\n";
 
@@ -46,7 +46,9 @@ fn forms(program: &str) -> usize {
         (sun.replace("2003", "0000002003").into(), OTHER.into()),
         (sun.replace("397424760", "0397424760").into(), SUN.into()),
         (sun.replace("1830", "00000001830").into(), OTHER.into()),
-        (sun.replace(" 0 670", " 10 670").into(), "refused 5\n".into()),
+        (sun.replace(" 0 67000", " 900 67000").into(), SUN.into()),
+        (sun.replace(" 0 67000", " 901 67000").into(), "refused 5\n".into()),
+        (sun.replace(" 0 67000", " 0 8000001").into(), "refused 6\n".into()),
         (format!("{sun}{}\n{sun}\n", "0".repeat(100_000)).into(), format!("{OTHER}{SUN}")),
         (vec![0xff, b'\n', 0x80], OTHER.repeat(2)),
     ];

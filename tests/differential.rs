@@ -36,7 +36,7 @@ const QUARTER_TURN: i64 = 9_000_000_000;
 const DEGREE: i64 = 100_000_000;
 
 // The furthest instant that the sums answer.
-const FURTHEST: i64 = 31_904_733_600;
+const FURTHEST: i64 = 3_190_473_360_000;
 
 #[derive(Clone, Copy, Debug)]
 struct Request {
@@ -104,8 +104,8 @@ fn code(random: &mut Random, known: u32) -> u32 {
 
 impl Request {
     fn reference_start(&self) -> reference::Start {
-        let [year, month, day, hour, minute, second, tenth, ut1, delta_t, ..] = self.numbers;
-        reference::Start { year, month, day, hour, minute, second, tenth, ut1, delta_t }
+        let [year, month, day, hour, minute, second, millisecond, ut1, delta_t, ..] = self.numbers;
+        reference::Start { year, month, day, hour, minute, second, millisecond, ut1, delta_t }
     }
 
     fn reference_point(&self) -> reference::Point {
@@ -149,6 +149,8 @@ struct Tally {
     days: [u64; 256],
     eclipses: [u64; 256],
     shares: [u64; 256],
+    // of the accepted places, those at a whole 0.1 s of each of the three times, and the others
+    milliseconds: [u64; 2],
     // of the places next to the limit of refraction, those below it and those that are not
     limits: [u64; 2],
     // of the places at a point without an azimuth and beside it, by OVERHEAD; of the batches that have such a place, by MARKS
@@ -172,6 +174,9 @@ fn place_of(asked: &Request, seen: &mut Tally) -> Answer<Seen<2>> {
     let plain = known.and_then(|()| reference::place(start, body, point, air).map_err(u32::from));
     let expected = answer_seen(plain.map(|place| (place.azimuth, [place.azimuth.unwrap_or(0), place.elevation])));
     same("place", asked, place(&asked.numbers, asked.body, asked.air), expected, &mut seen.places);
+    if expected.0 == 0 {
+        seen.milliseconds[usize::from(asked.numbers[6..9].iter().any(|ms| ms % 100 != 0))] += 1;
+    }
     let shown = known.and_then(|()| reference::shown_place(start, body, point, air).map_err(u32::from));
     let doubles = shown.map(|shown| {
         let doubles = [shown.azimuth.unwrap_or(0.0), shown.elevation, shown.refraction];
@@ -238,13 +243,12 @@ const MARKS: [&str; 4] = ["at the first entry", "at one between", "at the last",
 
 // A batch from midnight on, the request's own moment, which has no azimuth, at one of its entries; any other offset may be too late.
 fn marked_batch(random: &mut Random, asked: &Request, seen: &mut Tally) {
-    let [_, _, _, hour, minute, second, tenth, ..] = asked.numbers;
     let mut from_midnight = *asked;
     from_midnight.numbers[3..7].fill(0);
-    let mut offsets: Vec<u32> = (0..3 + random.below(4)).map(|_| random.below(2 * 864_000) as u32).collect();
+    let mut offsets: Vec<u32> = (0..3 + random.below(4)).map(|_| random.between(0, 2 * LAST_OF_DAY_MS) as u32).collect();
     let place = random.below(3) as usize;
     let entry = [0, offsets.len() / 2, offsets.len() - 1][place];
-    offsets[entry] = (36_000 * hour + 600 * minute + 10 * second + tenth) as u32;
+    offsets[entry] = clock_ms(&asked.numbers) as u32;
     let case = match asked_batch(random, &from_midnight, &offsets, seen) {
         Some(azimuths) if azimuths[entry] == NO_DIRECTION => place,
         Some(azimuths) => panic!("no mark at entry {entry} of {azimuths:?}, of {asked:?}"),
@@ -267,9 +271,19 @@ fn batch_of(random: &mut Random, asked: &mut Request, seen: &mut Tally) {
         asked.numbers[3] = 23;
     }
     let count = random.below(7) as usize;
-    let widest = if late { 40_000 } else { u64::from(u32::MAX) };
-    let offsets: Vec<u32> = (0..count).map(|_| random.below(widest + 1) as u32).collect();
+    let offsets: Vec<u32> = (0..count).map(|_| if late { late_offset(random, &asked.numbers) } else { random.next() as u32 }).collect();
     asked_batch(random, asked, &offsets, seen);
+}
+
+// To the last moment of the day, a millisecond beyond it, or anywhere in an hour and more. (A clock that is refused may give any offset.)
+fn late_offset(random: &mut Random, numbers: &[i64; 12]) -> u32 {
+    let is_clock = numbers[3..7].iter().all(|number| (0..1000).contains(number));
+    let left = if is_clock { LAST_OF_DAY_MS - clock_ms(numbers) } else { 0 };
+    match random.below(4) {
+        0 => left as u32,
+        1 => (left + 1) as u32,
+        _ => random.below(4_000_000) as u32,
+    }
 }
 
 // The batch into buffers of about the list's length; what the azimuths' holds after, where it is accepted.
@@ -465,6 +479,7 @@ fn draw(random: &mut Random, turn: u64, seen: &mut Tally) {
 fn summary(seen: &Tally) -> Vec<String> {
     let mut lines = vec![
         complete("places", &seen.places, (1..=11).chain([101, 102])),
+        all_drawn("accepted places,", &["at a whole 0.1 s", "at no whole 0.1 s"], &seen.milliseconds),
         complete("instants and dates", &seen.instants, 1..=6),
         complete("batches", &seen.batches, (1..=9).chain([12, 13, 101])),
         complete("middles", &seen.middles, [14, 15]),
@@ -501,6 +516,7 @@ fn main() {
         days: none,
         eclipses: none,
         shares: none,
+        milliseconds: [0; 2],
         limits: [0; 2],
         overhead: [0; OVERHEAD.len()],
         marks: [0; MARKS.len()],

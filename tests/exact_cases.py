@@ -19,8 +19,8 @@ ROOT = Path(__file__).resolve().parent.parent
 TABLES = ROOT / "tests" / "tables"
 SCALE = 10 ** 30
 
-# The two instants, TT in tenths of a second from noon of 2000-01-01.
-INSTANTS = {"₁": -31_557_248_009, "₂": 12_345_678_901}
+# The two instants, TT in milliseconds from noon of 2000-01-01.
+INSTANTS = {"₁": -3_155_724_800_900, "₂": 1_234_567_890_123}
 
 
 def rows(name):
@@ -69,7 +69,7 @@ ADDED = {"A1": ["119.75", "131.849"], "A2": ["53.09", "479264.290"], "A3": ["313
 
 class Moon:
     def __init__(self, n):
-        self.T = T = Fraction(n, 31_557_600_000)
+        self.T = T = Fraction(n, 3_155_760_000_000)
         polynomials = {**ARGUMENTS, **{name: [Fraction(c) for c in printed] for name, printed in ADDED.items()}}
         self.degrees = {name: sum(c * T ** i for i, c in enumerate(cs)) for name, cs in polynomials.items()}
         self.E = 1 - Fraction("0.002516") * T - Fraction("0.0000074") * T ** 2
@@ -110,7 +110,7 @@ def group(name):
 
 class Sun:
     def __init__(self, n):
-        self.tau = Fraction(n, 315_576_000_000)
+        self.tau = Fraction(n, 31_557_600_000_000)
 
     def ray(self, row):
         a, b, c = row

@@ -18,12 +18,12 @@ const AIR: Air = Air { kind: 2, pressure: 820.0, temperature: 11.0 };
 // A different minute of a different day for each call.
 fn numbers(call: u64) -> [i64; 9] {
     let [year, month, day] = [1900 + call % 201, 1 + call % 12, 1 + call % 28];
-    [year, month, day, call * 7 % 24, call * 13 % 60, call * 17 % 60, 0, 0, 670].map(|number| number as i64)
+    [year, month, day, call * 7 % 24, call * 13 % 60, call * 17 % 60, 0, 0, 67_000].map(|number| number as i64)
 }
 
 fn reference_start(numbers: [i64; 9]) -> reference::Start {
-    let [year, month, day, hour, minute, second, tenth, ut1, delta_t] = numbers;
-    reference::Start { year, month, day, hour, minute, second, tenth, ut1, delta_t }
+    let [year, month, day, hour, minute, second, millisecond, ut1, delta_t] = numbers;
+    reference::Start { year, month, day, hour, minute, second, millisecond, ut1, delta_t }
 }
 
 fn reference_point([longitude, latitude, height]: [i64; 3]) -> reference::Point {
@@ -66,7 +66,7 @@ fn reference_shown(body: u32, call: u64) -> i64 {
 }
 
 fn offsets() -> Vec<u32> {
-    (0..MINUTES as u32).map(|minute| minute * 600).collect()
+    (0..MINUTES as u32).map(|minute| minute * 60_000).collect()
 }
 
 fn batch_of_a_day(body: u32, call: u64) -> i64 {
@@ -76,7 +76,7 @@ fn batch_of_a_day(body: u32, call: u64) -> i64 {
     at[3..6].fill(0);
     let (length, mut told) = (MINUTES as u64, [0; 2]);
     unsafe {
-        raddlehue_batch(
+        raddlehue_batch_ms(
             &at,
             body,
             &POINT,
@@ -122,7 +122,7 @@ const PACIFIC: [i64; 3] = [1_433_617_000, 246_117_000, 0];
 
 fn eclipse_second(call: u64) -> [i64; 9] {
     let second = 3_960 + (call * 37 % 10_000) as i64;
-    [2009, 7, 22, second / 3600, second / 60 % 60, second % 60, 0, 0, 664]
+    [2009, 7, 22, second / 3600, second / 60 % 60, second % 60, 0, 0, 66_400]
 }
 
 fn eclipse_of(call: u64) -> i64 {
@@ -381,19 +381,19 @@ const CALLS: [Call; 27] = [
     Call {
         name: "sums of the Sun",
         places: 1,
-        ours: |call| sums(raddlehue_sun_sums, call, 0),
+        ours: |call| sums(raddlehue_sun_sums_ms, call, 0),
         reference: |call| reference::sun(instant_at(call)).longitude,
     },
     Call {
         name: "sums of the Moon",
         places: 1,
-        ours: |call| sums(raddlehue_moon_sums, call, 2),
+        ours: |call| sums(raddlehue_moon_sums_ms, call, 2),
         reference: |call| reference::moon(instant_at(call)).metres,
     },
     Call {
         name: "nutation",
         places: 1,
-        ours: |call| sums(raddlehue_nutation, call, 2),
+        ours: |call| sums(raddlehue_nutation_ms, call, 2),
         reference: |call| reference::nutation(instant_at(call)).true_obliquity,
     },
     Call {

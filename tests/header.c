@@ -15,62 +15,62 @@
         }                                                               \
     } while (0)
 
-/* moon 1960 8 6 20 27 28 6 -5 794 585407609 389472334 769 standard */
-static const raddlehue_start_t moon_start = {1960, 8, 6, 20, 27, 28, 6, -5, 794};
+/* moon 1960 8 6 20 27 28 600 -500 79400 585407609 389472334 769 standard */
+static const raddlehue_start_ms_t moon_start = {1960, 8, 6, 20, 27, 28, 600, -500, 79400};
 static const raddlehue_point_t moon_point = {585407609, 389472334, 769};
 static const raddlehue_air_t standard = {RADDLEHUE_AIR_STANDARD, 0.0, 0.0};
 
-/* sun 2084 10 1 16 53 51 6 -5 557 -481509256 -499537563 1954 measured 1200 80 */
-static const raddlehue_start_t sun_start = {2084, 10, 1, 16, 53, 51, 6, -5, 557};
+/* sun 2084 10 1 16 53 51 600 -500 55700 -481509256 -499537563 1954 measured 1200 80 */
+static const raddlehue_start_ms_t sun_start = {2084, 10, 1, 16, 53, 51, 600, -500, 55700};
 static const raddlehue_point_t sun_point = {-481509256, -499537563, 1954};
 static const raddlehue_air_t measured = {RADDLEHUE_AIR_MEASURED, 1200.0, 80.0};
 
-/* The Sun straight over Lahaina on Maui, by reference/: a tenth of a second before it is in the east, and a tenth after in the west. */
-static const raddlehue_start_t overhead_start = {2005, 7, 18, 22, 32, 59, 0, 0, 647};
-static const raddlehue_start_t tenth_before = {2005, 7, 18, 22, 32, 58, 9, 0, 647};
+/* The Sun straight over Lahaina on Maui, by reference/: 0.1 s before it is in the east, and 0.1 s after in the west. */
+static const raddlehue_start_ms_t overhead_start = {2005, 7, 18, 22, 32, 59, 0, 0, 64700};
+static const raddlehue_start_ms_t just_before = {2005, 7, 18, 22, 32, 58, 900, 0, 64700};
 static const raddlehue_point_t lahaina = {-1566828813, 208783487, 0};
 
-/* moon 2038 9 14 15 57 15 9 3 10224 -464318022 25923395 54 standard: straight underfoot */
-static const raddlehue_start_t underfoot_start = {2038, 9, 14, 15, 57, 15, 9, 3, 10224};
+/* moon 2038 9 14 15 57 15 900 300 1022400 -464318022 25923395 54 standard: straight underfoot */
+static const raddlehue_start_ms_t underfoot_start = {2038, 9, 14, 15, 57, 15, 900, 300, 1022400};
 static const raddlehue_point_t underfoot_point = {-464318022, 25923395, 54};
 
-/* batch moon 1901 10 16 9 53 46 7 -4 77549 -202447758 -340487719 5521 3 3 ; 2577 */
-static const raddlehue_start_t batch_start = {1901, 10, 16, 9, 53, 46, 7, -4, 77549};
+/* batch moon 1901 10 16 9 53 46 700 -400 7754900 -202447758 -340487719 5521 3 3 ; 257700 */
+static const raddlehue_start_ms_t batch_start = {1901, 10, 16, 9, 53, 46, 700, -400, 7754900};
 static const raddlehue_point_t batch_point = {-202447758, -340487719, 5521};
 
-/* batch moon 2100 12 31 23 51 23 5 -1 33931 -243466823 -65708847 6033 4 4 ; 2359 7103 867 */
-static const raddlehue_start_t late_start = {2100, 12, 31, 23, 51, 23, 5, -1, 33931};
+/* batch moon 2100 12 31 23 51 23 500 -100 3393100 -243466823 -65708847 6033 4 4 ; 235900 710300 86700 */
+static const raddlehue_start_ms_t late_start = {2100, 12, 31, 23, 51, 23, 500, -100, 3393100};
 static const raddlehue_point_t late_point = {-243466823, -65708847, 6033};
 
 /* The longest day at Greenwich, whose rise and set DE431 has at the same minutes. */
-static const raddlehue_date_t longest_day = {2009, 6, 21, 0, 659};
+static const raddlehue_date_ms_t longest_day = {2009, 6, 21, 0, 65900};
 static const raddlehue_point_t greenwich = {0, 514769000, 46};
 
-/* sun 1900 1 1 0 0 0 0 -9 -79999 -1792408461 -230700717 -500 none: straight overhead at minute 0 */
-static const raddlehue_date_t overhead_date = {1900, 1, 1, -9, -79999};
+/* sun 1900 1 1 0 0 0 0 -900 -7999900 -1792408461 -230700717 -500 none: straight overhead at minute 0 */
+static const raddlehue_date_ms_t overhead_date = {1900, 1, 1, -900, -7999900};
 static const raddlehue_point_t overhead_point = {-1792408461, -230700717, -500};
 
 /* A day of a body at a point, as a proposal is judged by it. */
 typedef struct {
-    raddlehue_date_t date;
+    raddlehue_date_ms_t date;
     uint32_t body;
     raddlehue_point_t point;
 } asked_t;
 
 /* The Sun goes with the clock, the Sun against it, and the Moon. */
-static const asked_t greenwich_sun = {{2009, 6, 21, 0, 659}, RADDLEHUE_SUN, {0, 514769000, 46}};
-static const asked_t hobart_sun = {{2026, 11, 17, 0, 692}, RADDLEHUE_SUN, {1473272000, -428821000, 20}};
-static const asked_t boulder_moon = {{2003, 10, 17, 0, 670}, RADDLEHUE_MOON, {-1051786000, 397424760, 1830}};
+static const asked_t greenwich_sun = {{2009, 6, 21, 0, 65900}, RADDLEHUE_SUN, {0, 514769000, 46}};
+static const asked_t hobart_sun = {{2026, 11, 17, 0, 69200}, RADDLEHUE_SUN, {1473272000, -428821000, 20}};
+static const asked_t boulder_moon = {{2003, 10, 17, 0, 67000}, RADDLEHUE_MOON, {-1051786000, 397424760, 1830}};
 
-/* No azimuth at minute 0 (the day above), and at minute 568 (sun 1956 7 6 9 28 0 0 -4 -21553 391266306 226824578 5078 none, straight overhead). */
-static const asked_t overhead_at_0 = {{1900, 1, 1, -9, -79999}, RADDLEHUE_SUN, {-1792408461, -230700717, -500}};
-static const asked_t overhead_at_568 = {{1956, 7, 6, -4, -21553}, RADDLEHUE_SUN, {391266306, 226824578, 5078}};
+/* No azimuth at minute 0 (the day above), and at minute 568 (sun 1956 7 6 9 28 0 0 -400 -2155300 391266306 226824578 5078 none, straight overhead). */
+static const asked_t overhead_at_0 = {{1900, 1, 1, -900, -7999900}, RADDLEHUE_SUN, {-1792408461, -230700717, -500}};
+static const asked_t overhead_at_568 = {{1956, 7, 6, -400, -2155300}, RADDLEHUE_SUN, {391266306, 226824578, 5078}};
 
 /* The equinox in the Gulf of Guinea: at minute 720 the azimuth is 9006292509, at minute 721 it is 27006292509, exactly opposite. */
-static const asked_t opposite_at_noon = {{2026, 3, 20, 0, 691}, RADDLEHUE_SUN, {17322914, -452846, 0}};
+static const asked_t opposite_at_noon = {{2026, 3, 20, 0, 69100}, RADDLEHUE_SUN, {17322914, -452846, 0}};
 
 /* The solstice near the date line: the first minute and the last are exactly opposite, 27022554181 and 9022554181. */
-static const asked_t opposite_ends = {{2026, 6, 21, 0, 691}, RADDLEHUE_SUN, {-1794024015, 234370340, 0}};
+static const asked_t opposite_ends = {{2026, 6, 21, 0, 69100}, RADDLEHUE_SUN, {-1794024015, 234370340, 0}};
 
 /* A strip of ten minutes, and its header by hand from 02: 592 bytes follow the length. */
 static const raddlehue_strip_t ten_minutes = {RADDLEHUE_AIR_NONE, RADDLEHUE_MOON, 2003, 10, 17, -1051786000, 397424760, 10};
@@ -78,12 +78,12 @@ static const uint8_t ten_minutes_header[RADDLEHUE_STRIP_HEADER] = {
     0x02, 0x50, 1, 0, 1, 0x07, 0xd3, 10, 17, 0xc1, 0x4f, 0x04, 0xf0, 0x17, 0xb0, 0x38, 0x78, 10};
 
 /* 003, Table 4, its first eclipse and its last: the whole Sun, and a ring. */
-static const raddlehue_start_t whole_start = {2009, 7, 22, 2, 33, 0, 0, 0, 664};
+static const raddlehue_start_ms_t whole_start = {2009, 7, 22, 2, 33, 0, 0, 0, 66400};
 static const raddlehue_point_t whole_point = {1433617000, 246117000, 0};
-static const raddlehue_start_t ring_start = {1981, 2, 4, 21, 57, 36, 0, 0, 515};
+static const raddlehue_start_ms_t ring_start = {1981, 2, 4, 21, 57, 36, 0, 0, 51500};
 static const raddlehue_point_t ring_point = {-1459033000, -458883000, 0};
 
-static const int64_t reach = 31904733600;
+static const int64_t reach = 3190473360000;
 
 /* The doubles of the vectors are written as their bits. */
 static uint64_t bits(double number)
@@ -98,7 +98,7 @@ static int constants(void)
     char version[32];
     sprintf(version, "%d.%d.%d", RADDLEHUE_VERSION_MAJOR, RADDLEHUE_VERSION_MINOR, RADDLEHUE_VERSION_PATCH);
     CHECK(strcmp(version, RADDLEHUE_VERSION) == 0);
-    CHECK(RADDLEHUE_SECOND == 10 && RADDLEHUE_DEGREE_E7 == 10000000 && RADDLEHUE_DEGREE_E8 == 100000000);
+    CHECK(RADDLEHUE_SECOND_MS == 1000 && RADDLEHUE_DEGREE_E7 == 10000000 && RADDLEHUE_DEGREE_E8 == 100000000);
     CHECK(RADDLEHUE_DAY_MINUTES == 1440 && RADDLEHUE_RISE_SET_E8 == -83330000 && RADDLEHUE_LOWEST_REFRACTED_E8 == -83337000);
     CHECK(RADDLEHUE_NO_DIRECTION_E8 == (int64_t)(~(uint64_t)0 >> 1) && sizeof(RADDLEHUE_NO_DIRECTION_E8) == sizeof(int64_t));
     CHECK(RADDLEHUE_STRIP_HEADER == 18 && RADDLEHUE_STRIP_STEPS(1) == 1440 && RADDLEHUE_STRIP_STEPS(2) == 720 && RADDLEHUE_STRIP_STEPS(5) == 288);
@@ -112,7 +112,7 @@ static int constants(void)
 /* The archive has arrays of numbers where the header has structs. */
 static int sizes(void)
 {
-    CHECK(sizeof(raddlehue_start_t) == 9 * sizeof(int64_t));
+    CHECK(sizeof(raddlehue_start_ms_t) == 9 * sizeof(int64_t));
     CHECK(sizeof(raddlehue_point_t) == 3 * sizeof(int64_t));
     CHECK(sizeof(raddlehue_place_t) == 2 * sizeof(int64_t));
     CHECK(offsetof(raddlehue_place_t, azimuth_if_any_e8) == 0 && offsetof(raddlehue_place_t, elevation_e8) == 8);
@@ -120,7 +120,7 @@ static int sizes(void)
     CHECK(offsetof(raddlehue_shown_place_t, azimuth_if_any_degrees) == 0 && offsetof(raddlehue_shown_place_t, elevation_degrees) == 8);
     CHECK(offsetof(raddlehue_shown_place_t, refraction_degrees) == 16);
     CHECK(sizeof(raddlehue_batch_t) == 2 * sizeof(uint64_t));
-    CHECK(sizeof(raddlehue_date_t) == 5 * sizeof(int64_t));
+    CHECK(sizeof(raddlehue_date_ms_t) == 5 * sizeof(int64_t));
     CHECK(sizeof(raddlehue_rise_set_t) == 4 * sizeof(uint32_t));
     CHECK(sizeof(raddlehue_strip_t) == 8 * sizeof(int64_t));
     CHECK(offsetof(raddlehue_strip_t, air) == 0 && offsetof(raddlehue_strip_t, body) == 8 && offsetof(raddlehue_strip_t, year) == 16);
@@ -182,7 +182,7 @@ static int place(void)
 /* Each number of a request out of its range, the later ones first, so that each refusal goes before those that are found already. */
 static int refusals(void)
 {
-    raddlehue_start_t start = moon_start;
+    raddlehue_start_ms_t start = moon_start;
     raddlehue_point_t point = moon_point;
     raddlehue_air_t air = {RADDLEHUE_AIR_MEASURED, 1010.0, -80.5};
     CHECK(raddlehue_place_of(start, RADDLEHUE_SUN, point, air).refusal == RADDLEHUE_TEMPERATURE);
@@ -194,11 +194,11 @@ static int refusals(void)
     CHECK(raddlehue_place_of(start, RADDLEHUE_SUN, point, air).refusal == RADDLEHUE_LATITUDE);
     point.longitude_e7 = -1800000001;
     CHECK(raddlehue_place_of(start, RADDLEHUE_SUN, point, air).refusal == RADDLEHUE_LONGITUDE);
-    start.delta_t_tenths = 80001;
+    start.delta_t_ms = 8000001;
     CHECK(raddlehue_place_of(start, RADDLEHUE_SUN, point, air).refusal == RADDLEHUE_DELTA_T);
-    start.ut1_tenths = 10;
+    start.ut1_ms = 901;
     CHECK(raddlehue_place_of(start, RADDLEHUE_SUN, point, air).refusal == RADDLEHUE_UT1);
-    start.fraction_tenths = 10;
+    start.fraction_ms = 1000;
     CHECK(raddlehue_place_of(start, RADDLEHUE_SUN, point, air).refusal == RADDLEHUE_CLOCK);
     start.day = 32;
     CHECK(raddlehue_place_of(start, RADDLEHUE_SUN, point, air).refusal == RADDLEHUE_DAY);
@@ -209,6 +209,29 @@ static int refusals(void)
     air.kind = 3;
     CHECK(raddlehue_place_of(start, RADDLEHUE_SUN, point, air).refusal == RADDLEHUE_UNKNOWN_AIR);
     CHECK(raddlehue_place_of(start, 2, point, air).refusal == RADDLEHUE_UNKNOWN_BODY);
+    return 0;
+}
+
+static uint32_t refusal_at(int64_t fraction_ms, int64_t ut1_ms, int64_t delta_t_ms)
+{
+    raddlehue_start_ms_t start = moon_start;
+    start.fraction_ms = fraction_ms;
+    start.ut1_ms = ut1_ms;
+    start.delta_t_ms = delta_t_ms;
+    return raddlehue_instant_of(start).refusal;
+}
+
+/* sun 1949 1 12 3 18 41 906 31 -1239899 612395026 -325135240 1454, and the ends of 4, 5 and 6 */
+static int milliseconds(void)
+{
+    const raddlehue_start_ms_t start = {1949, 1, 12, 3, 18, 41, 906, 31, -1239899};
+    const raddlehue_point_t point = {612395026, -325135240, 1454};
+    raddlehue_place_answer_t answer = raddlehue_place_of(start, RADDLEHUE_SUN, point, standard);
+    CHECK(answer.refusal == RADDLEHUE_ACCEPTED && answer.azimuth_if_any_e8 == 9971499373 && answer.elevation_e8 == 2688456507);
+    CHECK(refusal_at(0, -900, -8000000) == RADDLEHUE_ACCEPTED && refusal_at(999, 900, 8000000) == RADDLEHUE_ACCEPTED);
+    CHECK(refusal_at(-1, -901, -8000001) == RADDLEHUE_CLOCK && refusal_at(1000, 901, 8000001) == RADDLEHUE_CLOCK);
+    CHECK(refusal_at(0, -901, -8000001) == RADDLEHUE_UT1 && refusal_at(999, 901, 8000001) == RADDLEHUE_UT1);
+    CHECK(refusal_at(0, -900, -8000001) == RADDLEHUE_DELTA_T && refusal_at(999, 900, 8000001) == RADDLEHUE_DELTA_T);
     return 0;
 }
 
@@ -266,9 +289,9 @@ static int no_azimuth_shown(void)
 /* The mark stands in that entry alone, and the middle refuses it. */
 static int no_azimuth_in_a_batch(void)
 {
-    const uint32_t offsets[3] = {2, 1, 0};
+    const uint32_t offsets[3] = {200, 100, 0};
     int64_t azimuths[4] = {-7, -7, -7, -7}, elevations[4] = {-8, -8, -8, -8};
-    raddlehue_batch_answer_t answer = raddlehue_batch_of(tenth_before, RADDLEHUE_SUN, lahaina, offsets, 3, azimuths, 4, elevations, 4);
+    raddlehue_batch_answer_t answer = raddlehue_batch_ms_of(just_before, RADDLEHUE_SUN, lahaina, offsets, 3, azimuths, 4, elevations, 4);
     CHECK(answer.refusal == RADDLEHUE_ACCEPTED && answer.index == 0 && answer.count == 3);
     CHECK(azimuths[0] == 26995783452 && azimuths[1] == RADDLEHUE_NO_DIRECTION_E8 && azimuths[2] == 8999156196 && azimuths[3] == -7);
     CHECK(elevations[0] == 8999961083 && elevations[1] == 8999999993 && elevations[2] == 8999961083 && elevations[3] == -8);
@@ -279,42 +302,55 @@ static int no_azimuth_in_a_batch(void)
 
 static int batch(void)
 {
-    const uint32_t offsets[1] = {2577};
+    const uint32_t offsets[1] = {257700};
     int64_t azimuths[3] = {-7, -7, -7}, elevations[3] = {-8, -8, -8};
     raddlehue_batch_t batch = {77, 88};
     raddlehue_batch_answer_t answer;
-    CHECK(raddlehue_batch(&batch_start, RADDLEHUE_MOON, &batch_point, offsets, 1, azimuths, 3, elevations, 3, &batch) == RADDLEHUE_ACCEPTED);
+    CHECK(raddlehue_batch_ms(&batch_start, RADDLEHUE_MOON, &batch_point, offsets, 1, azimuths, 3, elevations, 3, &batch) == RADDLEHUE_ACCEPTED);
     CHECK(batch.index == 0 && batch.count == 1);
     CHECK(azimuths[0] == 10627468805 && azimuths[1] == -7 && azimuths[2] == -7);
     CHECK(elevations[0] == 957985423 && elevations[1] == -8 && elevations[2] == -8);
 
     azimuths[0] = -7;
-    answer = raddlehue_batch_of(batch_start, RADDLEHUE_MOON, batch_point, offsets, 1, azimuths, 1, elevations, 1);
+    answer = raddlehue_batch_ms_of(batch_start, RADDLEHUE_MOON, batch_point, offsets, 1, azimuths, 1, elevations, 1);
     CHECK(answer.refusal == RADDLEHUE_ACCEPTED && answer.index == 0 && answer.count == 1 && azimuths[0] == 10627468805);
     return 0;
 }
 
 static int refused_batch(void)
 {
-    const uint32_t offsets[3] = {2359, 7103, 867};
+    const uint32_t offsets[3] = {235900, 710300, 86700};
     int64_t azimuths[3] = {-7, -7, -7}, elevations[3] = {-8, -8, -8};
-    raddlehue_start_t nowhen = late_start;
+    raddlehue_start_ms_t nowhen = late_start;
     raddlehue_batch_t batch = {77, 88};
     raddlehue_batch_answer_t answer;
     nowhen.year = 1899;
-    CHECK(raddlehue_batch(&nowhen, 2, &late_point, offsets, 3, azimuths, 3, elevations, 3, &batch) == RADDLEHUE_UNKNOWN_BODY);
-    CHECK(raddlehue_batch(&nowhen, RADDLEHUE_MOON, &late_point, offsets, 3, azimuths, 2, elevations, 3, &batch) == RADDLEHUE_YEAR);
-    CHECK(raddlehue_batch(&late_start, RADDLEHUE_MOON, &late_point, offsets, 3, azimuths, 2, elevations, 3, &batch) == RADDLEHUE_SHORT_BUFFER);
-    CHECK(raddlehue_batch(&late_start, RADDLEHUE_MOON, &late_point, offsets, 3, azimuths, 3, elevations, 2, &batch) == RADDLEHUE_SHORT_BUFFER);
+    CHECK(raddlehue_batch_ms(&nowhen, 2, &late_point, offsets, 3, azimuths, 3, elevations, 3, &batch) == RADDLEHUE_UNKNOWN_BODY);
+    CHECK(raddlehue_batch_ms(&nowhen, RADDLEHUE_MOON, &late_point, offsets, 3, azimuths, 2, elevations, 3, &batch) == RADDLEHUE_YEAR);
+    CHECK(raddlehue_batch_ms(&late_start, RADDLEHUE_MOON, &late_point, offsets, 3, azimuths, 2, elevations, 3, &batch) == RADDLEHUE_SHORT_BUFFER);
+    CHECK(raddlehue_batch_ms(&late_start, RADDLEHUE_MOON, &late_point, offsets, 3, azimuths, 3, elevations, 2, &batch) == RADDLEHUE_SHORT_BUFFER);
     CHECK(batch.index == 77 && batch.count == 88);
-    CHECK(raddlehue_batch(&late_start, RADDLEHUE_MOON, &late_point, offsets, 3, azimuths, 3, elevations, 3, &batch) == RADDLEHUE_TOO_LATE);
+    CHECK(raddlehue_batch_ms(&late_start, RADDLEHUE_MOON, &late_point, offsets, 3, azimuths, 3, elevations, 3, &batch) == RADDLEHUE_TOO_LATE);
     CHECK(batch.index == 1 && batch.count == 0);
-    answer = raddlehue_batch_of(late_start, RADDLEHUE_MOON, late_point, offsets, 3, azimuths, 3, elevations, 3);
+    answer = raddlehue_batch_ms_of(late_start, RADDLEHUE_MOON, late_point, offsets, 3, azimuths, 3, elevations, 3);
     CHECK(answer.refusal == RADDLEHUE_TOO_LATE && answer.index == 1 && answer.count == 0);
-    answer = raddlehue_batch_of(late_start, RADDLEHUE_MOON, late_point, offsets, 3, azimuths, 0, elevations, 0);
+    answer = raddlehue_batch_ms_of(late_start, RADDLEHUE_MOON, late_point, offsets, 3, azimuths, 0, elevations, 0);
     CHECK(answer.refusal == RADDLEHUE_SHORT_BUFFER && answer.index == 0 && answer.count == 0);
     CHECK(azimuths[0] == -7 && azimuths[1] == -7 && azimuths[2] == -7);
     CHECK(elevations[0] == -8 && elevations[1] == -8 && elevations[2] == -8);
+    return 0;
+}
+
+/* The last moment of all, and a millisecond after it. */
+static int last_moment(void)
+{
+    const raddlehue_start_ms_t last = {2100, 12, 31, 23, 59, 59, 999, 0, 0};
+    const uint32_t offsets[3] = {0, 1, 0};
+    int64_t azimuths[3] = {-7, -7, -7}, elevations[3] = {-8, -8, -8};
+    raddlehue_batch_answer_t answer = raddlehue_batch_ms_of(last, RADDLEHUE_MOON, late_point, offsets, 3, azimuths, 3, elevations, 3);
+    CHECK(answer.refusal == RADDLEHUE_TOO_LATE && answer.index == 1 && answer.count == 0 && azimuths[0] == -7 && elevations[0] == -8);
+    answer = raddlehue_batch_ms_of(last, RADDLEHUE_MOON, late_point, offsets, 1, azimuths, 3, elevations, 3);
+    CHECK(answer.refusal == RADDLEHUE_ACCEPTED && answer.count == 1 && azimuths[0] != -7 && azimuths[1] == -7);
     return 0;
 }
 
@@ -324,24 +360,24 @@ static int empty_batch(void)
     const uint32_t offsets[1] = {0};
     raddlehue_batch_t batch = {77, 88};
     raddlehue_batch_answer_t answer;
-    CHECK(raddlehue_batch(&batch_start, RADDLEHUE_SUN, &batch_point, 0, 0, 0, 0, 0, 0, &batch) == RADDLEHUE_ACCEPTED);
+    CHECK(raddlehue_batch_ms(&batch_start, RADDLEHUE_SUN, &batch_point, 0, 0, 0, 0, 0, 0, &batch) == RADDLEHUE_ACCEPTED);
     CHECK(batch.index == 0 && batch.count == 0);
-    answer = raddlehue_batch_of(batch_start, RADDLEHUE_SUN, batch_point, offsets, 1, 0, 0, 0, 0);
+    answer = raddlehue_batch_ms_of(batch_start, RADDLEHUE_SUN, batch_point, offsets, 1, 0, 0, 0, 0);
     CHECK(answer.refusal == RADDLEHUE_SHORT_BUFFER && answer.index == 0 && answer.count == 0);
     return 0;
 }
 
 /* A minute of the day as a moment of its own. */
-static raddlehue_place_answer_t place_at(raddlehue_date_t date, int64_t minute, uint32_t body, raddlehue_point_t point)
+static raddlehue_place_answer_t place_at(raddlehue_date_ms_t date, int64_t minute, uint32_t body, raddlehue_point_t point)
 {
-    raddlehue_start_t start = {0, 0, 0, 0, 0, 0, 0, 0, 0};
+    raddlehue_start_ms_t start = {0, 0, 0, 0, 0, 0, 0, 0, 0};
     start.year = date.year;
     start.month = date.month;
     start.day = date.day;
     start.hour = minute / 60;
     start.minute = minute % 60;
-    start.ut1_tenths = date.ut1_tenths;
-    start.delta_t_tenths = date.delta_t_tenths;
+    start.ut1_ms = date.ut1_ms;
+    start.delta_t_ms = date.delta_t_ms;
     return raddlehue_place_of(start, body, point, standard);
 }
 
@@ -373,7 +409,7 @@ static int day(void)
 static int days_without(void)
 {
     const raddlehue_point_t tromso = {189553000, 696492000, 10}, equator = {902000000, 0, 0};
-    raddlehue_date_t date = {2026, 6, 21, 0, 691};
+    raddlehue_date_ms_t date = {2026, 6, 21, 0, 69100};
     int64_t elevations[RADDLEHUE_DAY_MINUTES];
     CHECK(rises_and_sets(raddlehue_day_of(date, RADDLEHUE_SUN, tromso, elevations), 0, 0, 0, 0) && elevations[0] >= RADDLEHUE_RISE_SET_E8);
     date.month = 12;
@@ -386,7 +422,7 @@ static int days_without(void)
     date.year = 1900;
     date.month = 1;
     date.day = 2;
-    date.delta_t_tenths = -20;
+    date.delta_t_ms = -2000;
     CHECK(rises_and_sets(raddlehue_day_of(date, RADDLEHUE_SUN, equator, elevations), 1, 0, 1, 727));
     date.day = 1;
     CHECK(rises_and_sets(raddlehue_day_of(date, RADDLEHUE_SUN, equator, elevations), 0, 0, 1, 727));
@@ -395,7 +431,7 @@ static int days_without(void)
 
 static int refused_day(void)
 {
-    raddlehue_date_t date = longest_day;
+    raddlehue_date_ms_t date = longest_day;
     raddlehue_point_t point = greenwich;
     raddlehue_rise_set_t rise_set = {7, 8, 9, 10};
     raddlehue_day_answer_t answer;
@@ -408,9 +444,9 @@ static int refused_day(void)
     CHECK(raddlehue_day(&date, RADDLEHUE_SUN, &point, elevations, &rise_set) == RADDLEHUE_LATITUDE);
     point.longitude_e7 = -1800000001;
     CHECK(raddlehue_day(&date, RADDLEHUE_SUN, &point, elevations, &rise_set) == RADDLEHUE_LONGITUDE);
-    date.delta_t_tenths = 80001;
+    date.delta_t_ms = 8000001;
     CHECK(raddlehue_day(&date, RADDLEHUE_SUN, &point, elevations, &rise_set) == RADDLEHUE_DELTA_T);
-    date.ut1_tenths = 10;
+    date.ut1_ms = 901;
     CHECK(raddlehue_day(&date, RADDLEHUE_SUN, &point, elevations, &rise_set) == RADDLEHUE_UT1);
     date.day = 31;
     CHECK(raddlehue_day(&date, RADDLEHUE_SUN, &point, elevations, &rise_set) == RADDLEHUE_DAY);
@@ -428,7 +464,7 @@ static int refused_day(void)
 }
 
 /* A minute's azimuth as a strip has it: rounded down, or the mark. */
-static uint32_t azimuth_at(raddlehue_date_t date, int64_t minute, uint32_t body, raddlehue_point_t point)
+static uint32_t azimuth_at(raddlehue_date_ms_t date, int64_t minute, uint32_t body, raddlehue_point_t point)
 {
     const raddlehue_place_answer_t place = place_at(date, minute, body, point);
     return place.has_azimuth ? (uint32_t)(place.azimuth_if_any_e8 / 10) : RADDLEHUE_NO_AZIMUTH_E7;
@@ -473,7 +509,7 @@ static int day_without_an_azimuth(void)
 static int refused_day_azimuths(void)
 {
     const int64_t no_steps[8] = {0, 3, 4, 11, -1, 1440, 4294967297, (int64_t)(~(uint64_t)0 >> 1)};
-    raddlehue_date_t date = longest_day;
+    raddlehue_date_ms_t date = longest_day;
     raddlehue_point_t point = greenwich;
     raddlehue_day_azimuths_answer_t answer;
     uint32_t azimuths[RADDLEHUE_STRIP_STEPS(10)];
@@ -492,9 +528,9 @@ static int refused_day_azimuths(void)
     CHECK(raddlehue_day_azimuths(&date, RADDLEHUE_SUN, &point, 3, azimuths, 143, &told) == RADDLEHUE_LATITUDE);
     point.longitude_e7 = -1800000001;
     CHECK(raddlehue_day_azimuths(&date, RADDLEHUE_SUN, &point, 3, azimuths, 143, &told) == RADDLEHUE_LONGITUDE);
-    date.delta_t_tenths = 80001;
+    date.delta_t_ms = 8000001;
     CHECK(raddlehue_day_azimuths(&date, RADDLEHUE_SUN, &point, 3, azimuths, 143, &told) == RADDLEHUE_DELTA_T);
-    date.ut1_tenths = 10;
+    date.ut1_ms = 901;
     CHECK(raddlehue_day_azimuths(&date, RADDLEHUE_SUN, &point, 3, azimuths, 143, &told) == RADDLEHUE_UT1);
     date.day = 31;
     CHECK(raddlehue_day_azimuths(&date, RADDLEHUE_SUN, &point, 3, azimuths, 143, &told) == RADDLEHUE_DAY);
@@ -976,7 +1012,7 @@ static int refused_points(void)
     const int64_t no_azimuths[4] = {-1, 36000000000, RADDLEHUE_NO_DIRECTION_E8, -RADDLEHUE_NO_DIRECTION_E8 - 1};
     const uint32_t no_minutes[8][2] = {{0, 1}, {0, 4294967295u}, {1, 0}, {1, 120}, {1, 1440}, {2, 60}, {24, 1438}, {24, 1440}};
     const uint64_t lengths[8][2] = {{0, 0}, {1, 1}, {0, 25}, {25, 0}, {25, 26}, {26, 25}, {24, 24}, {26, 26}};
-    const raddlehue_date_t date = greenwich_sun.date;
+    const raddlehue_date_ms_t date = greenwich_sun.date;
     const raddlehue_point_t point = greenwich_sun.point;
     const uint64_t any = ~(uint64_t)0;
     uint32_t out = 77;
@@ -1040,9 +1076,9 @@ static int refused_judge(void)
     CHECK(raddlehue_judge(&asked.date, asked.body, &asked.point, 1000, proposal.minutes, 25, proposal.azimuths, 25, &out) == RADDLEHUE_LATITUDE);
     asked.point.longitude_e7 = -1800000001;
     CHECK(raddlehue_judge(&asked.date, asked.body, &asked.point, 1000, proposal.minutes, 25, proposal.azimuths, 25, &out) == RADDLEHUE_LONGITUDE);
-    asked.date.delta_t_tenths = 80001;
+    asked.date.delta_t_ms = 8000001;
     CHECK(raddlehue_judge(&asked.date, asked.body, &asked.point, 1000, proposal.minutes, 25, proposal.azimuths, 25, &out) == RADDLEHUE_DELTA_T);
-    asked.date.ut1_tenths = 10;
+    asked.date.ut1_ms = 901;
     CHECK(raddlehue_judge(&asked.date, asked.body, &asked.point, 1000, proposal.minutes, 25, proposal.azimuths, 25, &out) == RADDLEHUE_UT1);
     asked.date.day = 31;
     CHECK(raddlehue_judge(&asked.date, asked.body, &asked.point, 1000, proposal.minutes, 25, proposal.azimuths, 25, &out) == RADDLEHUE_DAY);
@@ -1170,9 +1206,9 @@ static int refused_plan(void)
     CHECK(make_plan(asked, 0, &plan) == RADDLEHUE_LATITUDE && plan.count == 77 && is_untouched(&plan, 0));
     asked.point.longitude_e7 = 1800000001;
     CHECK(make_plan(asked, 0, &plan) == RADDLEHUE_LONGITUDE && plan.count == 77 && is_untouched(&plan, 0));
-    asked.date.delta_t_tenths = -80001;
+    asked.date.delta_t_ms = -8000001;
     CHECK(make_plan(asked, 0, &plan) == RADDLEHUE_DELTA_T && plan.count == 77 && is_untouched(&plan, 0));
-    asked.date.ut1_tenths = -10;
+    asked.date.ut1_ms = -901;
     CHECK(make_plan(asked, 0, &plan) == RADDLEHUE_UT1 && plan.count == 77 && is_untouched(&plan, 0));
     asked.date.day = 0;
     CHECK(make_plan(asked, 0, &plan) == RADDLEHUE_DAY && plan.count == 77 && is_untouched(&plan, 0));
@@ -1205,7 +1241,7 @@ static int eclipse(void)
 
 static int refused_eclipse(void)
 {
-    raddlehue_start_t start = whole_start;
+    raddlehue_start_ms_t start = whole_start;
     raddlehue_point_t point = whole_point;
     raddlehue_eclipse_t eclipse = {-7, -8, -9, -10};
     raddlehue_eclipse_answer_t answer;
@@ -1215,9 +1251,9 @@ static int refused_eclipse(void)
     CHECK(raddlehue_eclipse(&start, &point, &eclipse) == RADDLEHUE_LATITUDE);
     point.longitude_e7 = 1800000001;
     CHECK(raddlehue_eclipse(&start, &point, &eclipse) == RADDLEHUE_LONGITUDE);
-    start.delta_t_tenths = -80001;
+    start.delta_t_ms = -8000001;
     CHECK(raddlehue_eclipse(&start, &point, &eclipse) == RADDLEHUE_DELTA_T);
-    start.ut1_tenths = -10;
+    start.ut1_ms = -901;
     CHECK(raddlehue_eclipse(&start, &point, &eclipse) == RADDLEHUE_UT1);
     start.hour = 24;
     CHECK(raddlehue_eclipse(&start, &point, &eclipse) == RADDLEHUE_CLOCK);
@@ -1303,13 +1339,13 @@ static int refraction(void)
 /* Cases of 01 ("Time", "Cases by hand"). */
 static int days_and_instants(void)
 {
-    const raddlehue_start_t day_later = {2000, 1, 2, 12, 0, 0, 3, -9, 638};
-    raddlehue_start_t nowhen = day_later;
+    const raddlehue_start_ms_t day_later = {2000, 1, 2, 12, 0, 0, 300, -900, 63800};
+    raddlehue_start_ms_t nowhen = day_later;
     int64_t days = -7;
     raddlehue_instant_t instant = {-7, -8};
     raddlehue_day_count_answer_t day;
     raddlehue_instant_answer_t answer;
-    nowhen.delta_t_tenths = -80001;
+    nowhen.delta_t_ms = -8000001;
     CHECK(raddlehue_day_count(1900, 2, 29, &days) == RADDLEHUE_DAY && days == -7);
     CHECK(raddlehue_day_count(1900, 1, 1, &days) == RADDLEHUE_ACCEPTED && days == -36524);
     day = raddlehue_day_count_of(2100, 12, 31);
@@ -1317,37 +1353,38 @@ static int days_and_instants(void)
     day = raddlehue_day_count_of(2101, 13, 32);
     CHECK(day.refusal == RADDLEHUE_YEAR && day.days == 0);
 
-    CHECK(raddlehue_instant(&nowhen, &instant) == RADDLEHUE_DELTA_T && instant.ut_tenths == -7 && instant.tt_tenths == -8);
-    CHECK(raddlehue_instant(&day_later, &instant) == RADDLEHUE_ACCEPTED && instant.ut_tenths == 863994 && instant.tt_tenths == 864632);
+    CHECK(raddlehue_instant(&nowhen, &instant) == RADDLEHUE_DELTA_T && instant.ut_ms == -7 && instant.tt_ms == -8);
+    CHECK(raddlehue_instant(&day_later, &instant) == RADDLEHUE_ACCEPTED && instant.ut_ms == 86399400 && instant.tt_ms == 86463200);
     answer = raddlehue_instant_of(day_later);
-    CHECK(answer.refusal == RADDLEHUE_ACCEPTED && answer.ut_tenths == 863994 && answer.tt_tenths == 864632);
+    CHECK(answer.refusal == RADDLEHUE_ACCEPTED && answer.ut_ms == 86399400 && answer.tt_ms == 86463200);
     answer = raddlehue_instant_of(nowhen);
-    CHECK(answer.refusal == RADDLEHUE_DELTA_T && answer.ut_tenths == 0 && answer.tt_tenths == 0);
+    CHECK(answer.refusal == RADDLEHUE_DELTA_T && answer.ut_ms == 0 && answer.tt_ms == 0);
     return 0;
 }
 
-/* sums 0 and sums -30265161315 */
+/* sums 0 and sums -3026516131500 */
 static int moon_and_sun(void)
 {
     raddlehue_moon_sums_t moon = {-7, -8, -9};
     raddlehue_sun_sums_t sun = {-7, -8, -9};
-    raddlehue_moon_sums_answer_t moon_answer = raddlehue_moon_sums_of(-30265161315);
-    raddlehue_sun_sums_answer_t sun_answer = raddlehue_sun_sums_of(-30265161315);
-    CHECK(raddlehue_moon_sums(reach + 1, &moon) == RADDLEHUE_OUT_OF_REACH);
+    raddlehue_moon_sums_answer_t moon_answer = raddlehue_moon_sums_ms_of(-3026516131500);
+    raddlehue_sun_sums_answer_t sun_answer = raddlehue_sun_sums_ms_of(-3026516131500);
+    CHECK(raddlehue_moon_sums_ms(reach + 1, &moon) == RADDLEHUE_OUT_OF_REACH);
     CHECK(moon.longitude_e8 == -7 && moon.latitude_e8 == -8 && moon.distance_metres == -9);
-    CHECK(raddlehue_moon_sums(0, &moon) == RADDLEHUE_ACCEPTED);
+    CHECK(raddlehue_moon_sums_ms(0, &moon) == RADDLEHUE_ACCEPTED);
     CHECK(moon.longitude_e8 == 22331871102 && moon.latitude_e8 == 517128006 && moon.distance_metres == 402444812);
     CHECK(moon_answer.refusal == RADDLEHUE_ACCEPTED && moon_answer.longitude_e8 == 18665596688);
     CHECK(moon_answer.latitude_e8 == 75740975 && moon_answer.distance_metres == 366895535);
-    CHECK(raddlehue_moon_sums_of(-reach - 1).refusal == RADDLEHUE_OUT_OF_REACH && raddlehue_moon_sums_of(-reach - 1).distance_metres == 0);
+    CHECK(raddlehue_moon_sums_ms_of(-1).longitude_e8 == 22331871087 && raddlehue_moon_sums_ms_of(1).longitude_e8 == 22331871115);
+    CHECK(raddlehue_moon_sums_ms_of(-reach - 1).refusal == RADDLEHUE_OUT_OF_REACH && raddlehue_moon_sums_ms_of(-reach - 1).distance_metres == 0);
 
-    CHECK(raddlehue_sun_sums(-reach - 1, &sun) == RADDLEHUE_OUT_OF_REACH);
+    CHECK(raddlehue_sun_sums_ms(-reach - 1, &sun) == RADDLEHUE_OUT_OF_REACH);
     CHECK(sun.longitude_radians_e10 == -7 && sun.latitude_radians_e10 == -8 && sun.radius_au_e10 == -9);
-    CHECK(raddlehue_sun_sums(0, &sun) == RADDLEHUE_ACCEPTED);
+    CHECK(raddlehue_sun_sums_ms(0, &sun) == RADDLEHUE_ACCEPTED);
     CHECK(sun.longitude_radians_e10 == 17519226963 && sun.latitude_radians_e10 == -33050 && sun.radius_au_e10 == 9833275804);
     CHECK(sun_answer.refusal == RADDLEHUE_ACCEPTED && sun_answer.longitude_radians_e10 == -6008267956896);
     CHECK(sun_answer.latitude_radians_e10 == 3791 && sun_answer.radius_au_e10 == 9859682197);
-    CHECK(raddlehue_sun_sums_of(reach + 1).refusal == RADDLEHUE_OUT_OF_REACH && raddlehue_sun_sums_of(reach + 1).radius_au_e10 == 0);
+    CHECK(raddlehue_sun_sums_ms_of(reach + 1).refusal == RADDLEHUE_OUT_OF_REACH && raddlehue_sun_sums_ms_of(reach + 1).radius_au_e10 == 0);
     return 0;
 }
 
@@ -1355,20 +1392,20 @@ static int earth(void)
 {
     int64_t sidereal = -7;
     raddlehue_nutation_t nutation = {-7, -8, -9};
-    raddlehue_nutation_answer_t answer = raddlehue_nutation_of(-30265161315);
-    CHECK(raddlehue_nutation(reach + 1, &nutation) == RADDLEHUE_OUT_OF_REACH);
+    raddlehue_nutation_answer_t answer = raddlehue_nutation_ms_of(-3026516131500);
+    CHECK(raddlehue_nutation_ms(reach + 1, &nutation) == RADDLEHUE_OUT_OF_REACH);
     CHECK(nutation.longitude_e8 == -7 && nutation.obliquity_e8 == -8 && nutation.true_obliquity_e8 == -9);
-    CHECK(raddlehue_nutation(0, &nutation) == RADDLEHUE_ACCEPTED);
+    CHECK(raddlehue_nutation_ms(0, &nutation) == RADDLEHUE_ACCEPTED);
     CHECK(nutation.longitude_e8 == -386755 && nutation.obliquity_e8 == -160387 && nutation.true_obliquity_e8 == 2343768724);
     CHECK(answer.refusal == RADDLEHUE_ACCEPTED && answer.longitude_e8 == 40398);
     CHECK(answer.obliquity_e8 == -255728 && answer.true_obliquity_e8 == 2344920337);
-    CHECK(raddlehue_nutation_of(reach + 1).refusal == RADDLEHUE_OUT_OF_REACH && raddlehue_nutation_of(reach + 1).true_obliquity_e8 == 0);
+    CHECK(raddlehue_nutation_ms_of(reach + 1).refusal == RADDLEHUE_OUT_OF_REACH && raddlehue_nutation_ms_of(reach + 1).true_obliquity_e8 == 0);
 
-    CHECK(raddlehue_mean_sidereal(-reach - 1, &sidereal) == RADDLEHUE_OUT_OF_REACH && sidereal == -7);
-    CHECK(raddlehue_mean_sidereal(-864000, &sidereal) == RADDLEHUE_ACCEPTED && sidereal == 27947497100);
-    CHECK(raddlehue_mean_sidereal_of(0).refusal == RADDLEHUE_ACCEPTED && raddlehue_mean_sidereal_of(0).sidereal_e8 == 28046061837);
-    CHECK(raddlehue_mean_sidereal_of(reach + 1).refusal == RADDLEHUE_OUT_OF_REACH && raddlehue_mean_sidereal_of(reach + 1).sidereal_e8 == 0);
-    CHECK(raddlehue_mean_sidereal_of(reach).refusal == RADDLEHUE_ACCEPTED && raddlehue_moon_sums_of(-reach).refusal == RADDLEHUE_ACCEPTED);
+    CHECK(raddlehue_mean_sidereal_ms(-reach - 1, &sidereal) == RADDLEHUE_OUT_OF_REACH && sidereal == -7);
+    CHECK(raddlehue_mean_sidereal_ms(-86400000, &sidereal) == RADDLEHUE_ACCEPTED && sidereal == 27947497100);
+    CHECK(raddlehue_mean_sidereal_ms_of(0).refusal == RADDLEHUE_ACCEPTED && raddlehue_mean_sidereal_ms_of(0).sidereal_e8 == 28046061837);
+    CHECK(raddlehue_mean_sidereal_ms_of(reach + 1).refusal == RADDLEHUE_OUT_OF_REACH && raddlehue_mean_sidereal_ms_of(reach + 1).sidereal_e8 == 0);
+    CHECK(raddlehue_mean_sidereal_ms_of(reach).refusal == RADDLEHUE_ACCEPTED && raddlehue_moon_sums_ms_of(-reach).refusal == RADDLEHUE_ACCEPTED);
     return 0;
 }
 
@@ -1383,8 +1420,8 @@ static int numbers(void)
 
 int main(void)
 {
-    return constants() || sizes() || texts() || place() || refusals() || shown_place() || no_azimuth() || no_azimuth_shown() || batch() ||
-           no_azimuth_in_a_batch() || refused_batch() || empty_batch() || day() || days_without() || refused_day() || day_azimuths() ||
+    return constants() || sizes() || texts() || place() || refusals() || milliseconds() || shown_place() || no_azimuth() || no_azimuth_shown() || batch() ||
+           no_azimuth_in_a_batch() || refused_batch() || last_moment() || empty_batch() || day() || days_without() || refused_day() || day_azimuths() ||
            day_without_an_azimuth() || refused_day_azimuths() || strip_write() || refused_strip_write() || refused_headers() || strip_read() ||
            strip_lengths() || refused_strip_read() || strip_azimuth() || strip_find() || refused_strip_find() || largest_strip() || values() || judge() ||
            legs() || uncompared() || refused_points() || refused_judge() || plan() || plan_of() || no_plan() || refused_plan() || eclipse() ||

@@ -81,7 +81,7 @@ fn roots() -> usize {
 fn main() {
     let path = env::args().nth(1).expect("the file of vectors");
     let mut count = 0;
-    for line in fs::read_to_string(path).unwrap().lines() {
+    for line in fs::read_to_string(path).unwrap().lines().filter(|line| !line.starts_with('#')) {
         let (left, right) = line.split_once(" | ").unwrap();
         let (kind, input) = left.split_once(' ').unwrap();
         if !["sine", "atan", "root"].contains(&kind) {

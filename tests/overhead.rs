@@ -15,23 +15,8 @@ const ABSENT: [usize; 2] = [94, 95];
 // Of these, those in no air and at a whole minute.
 const DAYS: usize = 17;
 
-const LAST_TENTH: u32 = 863_999;
-
 fn has_azimuth(line: &PlaceLine) -> bool {
     line.place.1.has_azimuth == 1
-}
-
-// ---- times of one day, in tenths of a second from midnight
-
-fn tenths(numbers: &[i64; 12]) -> u32 {
-    (36_000 * numbers[3] + 600 * numbers[4] + 10 * numbers[5] + numbers[6]) as u32
-}
-
-// The same request at another time of its day.
-fn at(numbers: &[i64; 12], tenths: u32) -> [i64; 12] {
-    let mut moved = *numbers;
-    moved[3..7].copy_from_slice(&[tenths / 36_000, tenths / 600 % 60, tenths / 10 % 60, tenths % 10].map(i64::from));
-    moved
 }
 
 // ---- batches
@@ -46,10 +31,10 @@ fn entries(numbers: &[i64; 12], body: u32) -> [i64; 2] {
 // From midnight on, each entry the place at its own offset; the rest of the buffers is left alone.
 fn batch_from_midnight(line: &PlaceLine, offsets: [u32; 3]) -> [i64; 3] {
     let (mut azimuths, mut elevations) = ([POISON; 4], [POISON; 5]);
-    let found = batch(&at(&line.numbers, 0), line.body, &offsets, &mut azimuths, &mut elevations);
+    let found = batch(&at_ms(&line.numbers, 0), line.body, &offsets, &mut azimuths, &mut elevations);
     assert_eq!(found, (0, [0, 3]), "{line:?}");
     for (entry, offset) in offsets.into_iter().enumerate() {
-        let own = entries(&at(&line.numbers, offset), line.body);
+        let own = entries(&at_ms(&line.numbers, offset.into()), line.body);
         assert_eq!([azimuths[entry], elevations[entry]], own, "{line:?} {offsets:?} {entry}");
     }
     assert_eq!((azimuths[3], elevations[3], elevations[4]), (POISON, POISON, POISON), "{line:?}");
@@ -58,8 +43,8 @@ fn batch_from_midnight(line: &PlaceLine, offsets: [u32; 3]) -> [i64; 3] {
 
 // The line's moment is the first entry, the second, the last, and each.
 fn check_batches(line: &PlaceLine) {
-    let moment = tenths(&line.numbers);
-    for offsets in [[moment, 0, LAST_TENTH], [0, moment, LAST_TENTH], [0, LAST_TENTH, moment], [moment; 3]] {
+    let [moment, last] = [clock_ms(&line.numbers), LAST_OF_DAY_MS].map(|ms| ms as u32);
+    for offsets in [[moment, 0, last], [0, moment, last], [0, last, moment], [moment; 3]] {
         let azimuths = batch_from_midnight(line, offsets);
         for (offset, azimuth) in offsets.into_iter().zip(azimuths) {
             if offset == moment {
@@ -91,7 +76,7 @@ fn check_refused(line: &PlaceLine) {
     let [azimuths, elevations] = &mut buffers;
     assert_eq!(batch(&too_high, line.body, &[0, 0], azimuths, elevations), (9, [POISON; 2]));
     assert_eq!(batch(&line.numbers, line.body, &[0, 0], azimuths, &mut elevations[..1]), (12, [POISON; 2]));
-    if line.numbers[0] == 2100 {
+    if line.numbers[..2] == [2100, 12] {
         assert_eq!(batch(&line.numbers, line.body, &[0, u32::MAX], azimuths, elevations), (13, [1, 0]));
     }
     assert_eq!(buffers, [[POISON; 2]; 2], "{line:?}");
@@ -103,7 +88,7 @@ fn check_refused(line: &PlaceLine) {
 fn check_day(line: &PlaceLine) {
     let [year, month, day_of_month, .., ut1, delta_t, longitude, latitude, height] = line.numbers;
     let (refusal, found) = day(&[year, month, day_of_month, ut1, delta_t, longitude, latitude, height], line.body);
-    let minute = tenths(&line.numbers) / 600;
+    let minute = clock_ms(&line.numbers) / MINUTE_MS;
     assert_eq!((refusal, found.elevations[minute as usize]), (0, line.place.1.numbers[1]), "{line:?}");
 }
 

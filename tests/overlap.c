@@ -28,7 +28,7 @@ typedef struct {
 
 /* A row of Table 4: a moment and a place, the separation as printed, in degrees, and what the rule has. */
 typedef struct {
-    raddlehue_start_t start;
+    raddlehue_start_ms_t start;
     raddlehue_point_t point;
     double printed;
     raddlehue_eclipse_t known;
@@ -266,7 +266,7 @@ static const row_t *row_of_year(int64_t year)
 }
 
 /* The eclipse of a moment and its disks; the share is theirs by itself too. */
-static raddlehue_eclipse_t eclipse(const raddlehue_start_t *start, const raddlehue_point_t *point, disks_t *disks)
+static raddlehue_eclipse_t eclipse(const raddlehue_start_ms_t *start, const raddlehue_point_t *point, disks_t *disks)
 {
     raddlehue_eclipse_t found = {UNWRITTEN, UNWRITTEN, UNWRITTEN, UNWRITTEN};
     uint32_t refusal = raddlehue_eclipse(start, point, &found);
@@ -320,7 +320,7 @@ static int is_between(int64_t first, int64_t second, int64_t last)
 static void walk(const passage_t *passage)
 {
     const row_t *row = row_of_year(passage->year);
-    raddlehue_start_t start = row->start;
+    raddlehue_start_ms_t start = row->start;
     int64_t before = 0, second;
     for (second = passage->begin; second < passage->end; second++) {
         disks_t disks;

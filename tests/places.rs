@@ -7,8 +7,8 @@ mod vector_lines;
 use archive::*;
 use vector_lines::*;
 
-// The kinds of lines that run here, with how many the three files have.
-const KINDS: [(&str, usize); 5] = [("sun", 231), ("moon", 252), ("batch", 6), ("middle", 240), ("refr", 285)];
+// The kinds of lines that run here, with how many the files have.
+const KINDS: [(&str, usize); 5] = [("sun", 309), ("moon", 354), ("batch", 6), ("middle", 240), ("refr", 285)];
 
 // The cells of the buffers before a batch.
 const AZIMUTH_BEFORE: i64 = -7;
@@ -165,7 +165,7 @@ fn batches() {
     batch_refused(&GOOD_REQUEST, SUN, &[0, 1], (1, 2), 12, 0);
     batch_refused(&GOOD_REQUEST, MOON, &[u32::MAX, 1], (9, 1), 12, 0);
     let eve = [2100, 12, 31, 23, 59, 59, 0, 0, 0, 0, 0, 0];
-    batch_refused(&eve, SUN, &[0, 9, 10, u32::MAX], (4, 5), 13, 2);
+    batch_refused(&eve, SUN, &[0, 999, 1000, u32::MAX], (4, 5), 13, 2);
     batch_refused(&eve, MOON, &[u32::MAX], (1, 1), 13, 0);
     assert_eq!(batch(&eve, SUN, &[], &mut [], &mut []), (0, [0, 0]));
     // a list of nothing with a pointer to something, too
@@ -178,7 +178,7 @@ fn batches() {
 fn day(body: u32) {
     let mut request = GOOD_REQUEST;
     request[3..7].fill(0);
-    let offsets: Vec<u32> = (0..1440).map(|minute| 600 * minute).collect();
+    let offsets: Vec<u32> = (0..1440).map(|minute| minute * MINUTE_MS as u32).collect();
     let (mut azimuths, mut elevations) = (vec![AZIMUTH_BEFORE; 1441], vec![ELEVATION_BEFORE; 1442]);
     let answer = batch(&request, body, &offsets, &mut azimuths, &mut elevations);
     assert_eq!(answer, (0, [0, 1440]));

@@ -1,10 +1,10 @@
-// The program `places`: the places and refusals of tests/vectors/places.txt and overhead.txt to the last decimal, and lines of every form.
+// The program `places`: the places and refusals of tests/vectors/places.txt, overhead.txt and milliseconds.txt to the last decimal, and lines of every form.
 use std::env;
 
 mod program;
 use program::{printed, vectors};
 
-const NUMBERS: &str = "2003 10 17 19 30 30 0 0 670 -1051786000 397424760 1830";
+const NUMBERS: &str = "2003 10 17 19 30 30 0 0 67000 -1051786000 397424760 1830";
 const SUN: &str = "194.34024073 39.87204605\n";
 const OTHER: &str = "refused 16\n";
 
@@ -67,17 +67,17 @@ fn large(program: &str) -> usize {
     let count = 100;
     let lines = format!("sun {NUMBERS}\n").repeat(count);
     let answers = SUN.repeat(count);
-    for before in 0..60 {
+    for before in 0..62 {
         let input = format!("{}\n{lines}", "9".repeat(before));
         assert_eq!(printed(program, input.as_bytes()), format!("{OTHER}{answers}"));
     }
-    60
+    62
 }
 
 fn main() {
     let program = env::args().nth(1).expect("the program");
     let count: usize = env::args().skip(2).map(|path| vectors(&program, &path, case)).sum();
-    assert_eq!(count, 605);
+    assert_eq!(count, 785);
     let further = forms(&program) + large(&program);
     println!("places: {count} vectors and {further} further inputs come out");
 }

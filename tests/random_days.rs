@@ -61,7 +61,7 @@ fn latitude(random: &mut Random) -> i64 {
 // A request that nothing refuses, and its body.
 pub fn drawn(random: &mut Random) -> ([i64; 8], u32) {
     let [year, month, day] = date(random);
-    let (ut1, delta_t) = (random.field(-9, 9), random.field(-80_000, 80_000));
+    let (ut1, delta_t) = (random.field(FIELDS[7].0, FIELDS[7].1), random.field(FIELDS[8].0, FIELDS[8].1));
     let longitude = random.field(-HALF_TURN_E7, HALF_TURN_E7);
     let numbers = [year, month, day, ut1, delta_t, longitude, latitude(random), random.field(-500, 9_000)];
     (numbers, random.below(2) as u32)
@@ -104,7 +104,7 @@ pub fn reduced(longitude: i64) -> i64 {
 fn is_up(minute: i64, numbers: &[i64; 8], body: u32, longitude: i64) -> bool {
     let [year, month, day, ut1, delta_t, ..] = *numbers;
     let (day, minute) = if minute < 0 { (day - 1, 1439) } else { (day, minute) };
-    let start = reference::Start { year, month, day, hour: minute / 60, minute: minute % 60, second: 0, tenth: 0, ut1, delta_t };
+    let start = reference::Start { year, month, day, hour: minute / 60, minute: minute % 60, second: 0, millisecond: 0, ut1, delta_t };
     let point = reference::Point { longitude: reduced(longitude), ..point_of(numbers) };
     reference::place(start, body_of(body), point, reference::Air::None).is_ok_and(|place| place.elevation >= THRESHOLD)
 }

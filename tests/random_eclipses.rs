@@ -4,12 +4,13 @@ use std::sync::LazyLock;
 
 use raddlehue_reference::eclipse::{MOON_RADII, SEPARATIONS, SUN_RADII};
 
+use crate::archive::{at_ms, clock_ms, MINUTE_MS};
 use crate::{damage, Random, FIELDS};
 
-// How far from one of the seven at most: two hours in tenths of a second, ten degrees in 1e-7 degree, and ten seconds of delta-T.
-const TWO_HOURS: i64 = 72_000;
+// How far from one of the seven at most: two hours and, of delta-T, ten seconds, in milliseconds, and ten degrees in 1e-7 degree.
+const TWO_HOURS: i64 = 120 * MINUTE_MS;
 const TEN_DEGREES_E7: i64 = 100_000_000;
-const TEN_SECONDS: i64 = 100;
+const TEN_SECONDS: i64 = 10_000;
 
 // The cases of the share, in the order of `case_of`.
 pub const CASES: [&str; 4] = ["nothing", "the whole", "a ring", "a lens"];
@@ -26,9 +27,7 @@ pub fn near(random: &mut Random) -> [i64; 12] {
     let mut numbers = TABLE_4[random.below(TABLE_4.len() as u64) as usize];
     let scale = random.below(12);
     let mut about = |reach: i64| random.between(-(reach >> scale), reach >> scale);
-    let [_, _, _, hour, minute, second, tenth, ..] = numbers;
-    let tenths = 36_000 * hour + 600 * minute + 10 * second + tenth + about(TWO_HOURS);
-    numbers[3..7].copy_from_slice(&[tenths / 36_000, tenths / 600 % 60, tenths / 10 % 60, tenths % 10]);
+    numbers = at_ms(&numbers, clock_ms(&numbers) + about(TWO_HOURS));
     numbers[8] += about(TEN_SECONDS);
     numbers[9] += about(TEN_DEGREES_E7);
     numbers[10] = (numbers[10] + about(TEN_DEGREES_E7)).clamp(FIELDS[10].0, FIELDS[10].1);

@@ -12,11 +12,11 @@ static unsigned char stack[STACK];
 static ucontext_t back, there;
 static void (*entry)(void);
 
-static raddlehue_start_t start = {2003, 10, 17, 19, 30, 30, 0, 0, 670};
-static raddlehue_date_t date = {2003, 10, 17, 0, 670};
+static raddlehue_start_ms_t start = {2003, 10, 17, 19, 30, 30, 0, 0, 67000};
+static raddlehue_date_ms_t date = {2003, 10, 17, 0, 67000};
 static raddlehue_point_t point = {-1051786000, 397424760, 1830};
 /* 003, Table A.1.2: a part of the Sun is covered, so that the share is worked */
-static raddlehue_start_t eclipse_start = {2009, 7, 22, 1, 33, 0, 0, 0, 664};
+static raddlehue_start_ms_t eclipse_start = {2009, 7, 22, 1, 33, 0, 0, 0, 66400};
 static raddlehue_point_t eclipse_point = {1433616700, 246116700, 0};
 static const double pressure = 820.0, temperature = 11.0;
 static uint32_t body, has_azimuth;
@@ -49,7 +49,7 @@ static void plain_place(void) { kept = raddlehue_place(&start, body, &point, RAD
 static void shown_place(void) {
     kept = raddlehue_shown_place(&start, body, &point, RADDLEHUE_AIR_MEASURED, pressure, temperature, &has_azimuth, &shown);
 }
-static void batch(void) { kept = raddlehue_batch(&start, body, &point, offsets, COUNT, azimuths, COUNT, elevations, COUNT, &told); }
+static void batch(void) { kept = raddlehue_batch_ms(&start, body, &point, offsets, COUNT, azimuths, COUNT, elevations, COUNT, &told); }
 static void day(void) { kept = raddlehue_day(&date, body, &point, curve, &rise_set); }
 static void azimuths_of_a_day(void) { kept = raddlehue_day_azimuths(&date, body, &point, 1, day_azimuths, RADDLEHUE_STRIP_STEPS(1), &count); }
 static void strip_write(void) { kept = raddlehue_strip_write(&strip, day_azimuths, RADDLEHUE_STRIP_STEPS(1), bytes, sizeof bytes, &count); }
@@ -64,10 +64,10 @@ static void middle(void) { kept = raddlehue_middle(35990000000, 10000000, &numbe
 static void refraction(void) { kept = raddlehue_refraction(0, RADDLEHUE_AIR_MEASURED, pressure, temperature, &degrees); }
 static void day_count(void) { kept = raddlehue_day_count(2100, 12, 31, &number); }
 static void instant(void) { kept = raddlehue_instant(&start, &moment); }
-static void moon_sums(void) { kept = raddlehue_moon_sums(0, &moon); }
-static void sun_sums(void) { kept = raddlehue_sun_sums(0, &sun); }
-static void nutation(void) { kept = raddlehue_nutation(0, &angles); }
-static void mean_sidereal(void) { kept = raddlehue_mean_sidereal(0, &number); }
+static void moon_sums(void) { kept = raddlehue_moon_sums_ms(0, &moon); }
+static void sun_sums(void) { kept = raddlehue_sun_sums_ms(0, &sun); }
+static void nutation(void) { kept = raddlehue_nutation_ms(0, &angles); }
+static void mean_sidereal(void) { kept = raddlehue_mean_sidereal_ms(0, &number); }
 static void sine(void) { kept = (uint64_t)raddlehue_sine(3000000000); }
 static void arctangent(void) { kept = (uint64_t)raddlehue_arctangent(INT64_MAX, INT64_MIN); }
 static void root(void) { kept = raddlehue_root(UINT64_MAX); }
@@ -110,12 +110,12 @@ static void row(const char *name, void (*call)(void)) {
 
 int main(void) {
     for (uint32_t i = 0; i < COUNT; i++) {
-        offsets[i] = i * 600;
+        offsets[i] = i * 60 * RADDLEHUE_SECOND_MS;
     }
     puts("| Entry point | bytes of stack |\n|---|---:|");
     row("raddlehue_place", plain_place);
     row("raddlehue_shown_place", shown_place);
-    row("raddlehue_batch", batch);
+    row("raddlehue_batch_ms", batch);
     row("raddlehue_day", day);
     row_with("raddlehue_day and the curve that it is lent", day, sizeof curve);
     row("raddlehue_day_azimuths", azimuths_of_a_day);
@@ -132,10 +132,10 @@ int main(void) {
     row("raddlehue_refraction", refraction);
     row("raddlehue_day_count", day_count);
     row("raddlehue_instant", instant);
-    row("raddlehue_moon_sums", moon_sums);
-    row("raddlehue_sun_sums", sun_sums);
-    row("raddlehue_nutation", nutation);
-    row("raddlehue_mean_sidereal", mean_sidereal);
+    row("raddlehue_moon_sums_ms", moon_sums);
+    row("raddlehue_sun_sums_ms", sun_sums);
+    row("raddlehue_nutation_ms", nutation);
+    row("raddlehue_mean_sidereal_ms", mean_sidereal);
     /* these three refuse nothing */
     row_with("raddlehue_sine", sine, 0);
     row_with("raddlehue_arctangent", arctangent, 0);

@@ -1,4 +1,4 @@
-// Every line of sums in tests/vectors/places.txt, and instants out of reach, through the archive.
+// Every line of sums in tests/vectors/places.txt and milliseconds.txt, and instants out of reach, through the archive.
 use std::env;
 use std::fs;
 use std::process::exit;
@@ -6,12 +6,12 @@ use std::process::exit;
 mod archive;
 use archive::{mean_sidereal, moon_sums, nutation, sun_sums, POISON};
 
-// 1.011 centuries, in tenths of a second.
-const FURTHEST: i64 = 36_525 * 864_000 * 1011 / 1000;
+// 1.011 centuries, in milliseconds.
+const FURTHEST: i64 = 36_525 * 86_400_000 * 1011 / 1000;
 
 const OUT_OF_REACH: u32 = 104;
 
-const VECTORS: usize = 65;
+const VECTORS: usize = 65 + 50;
 
 fn fail(why: String) -> ! {
     eprintln!("sums: {why}");
@@ -65,14 +65,13 @@ fn reach() {
         }
     }
     let nothing = [3, 3, 3, 1].map(|length| vec![POISON; length]);
-    for n in [i64::MIN, i64::MIN + 1, -2 * FURTHEST, -FURTHEST - 1, FURTHEST + 1, 1 << 40, i64::MAX - 1, i64::MAX] {
+    for n in [i64::MIN, i64::MIN + 1, -2 * FURTHEST, -FURTHEST - 1, FURTHEST + 1, 1 << 42, i64::MAX - 1, i64::MAX] {
         compare(n, OUT_OF_REACH, &nothing);
     }
 }
 
 fn main() {
-    let path = env::args().nth(1).unwrap_or_else(|| fail("the file of vectors?".to_string()));
-    let count = vectors(&path);
+    let count: usize = env::args().skip(1).map(|path| vectors(&path)).sum();
     if count != VECTORS {
         fail(format!("{count} vectors, expected {VECTORS}"));
     }

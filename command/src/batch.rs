@@ -10,7 +10,7 @@ use crate::input::{self, at_line};
 use crate::observer::{self, observer_help, range_words, scales_words, Observer};
 use crate::place::body;
 use crate::sky::{self, Body, Place, SECOND_DECIMALS};
-use crate::time::Moment;
+use crate::time::{Moment, TOO_FINE};
 use crate::words::{Command, Words};
 
 pub const COMMAND: Command = Command {
@@ -22,11 +22,12 @@ pub const COMMAND: Command = Command {
         "raddlehue batch sun|moon [--start TIME] --lat DEG --lon DEG [flags] < LINES
 
 Azimuth and elevation, without refraction, for each line of standard input, in
-the order of the lines. With --start a line is an offset in seconds after it,
-with at most one decimal, and delta-T is the start's throughout; without it a
-line is a time of its own like 2026-11-15T19:30:30.5Z, with that time's delta-T.
-All lines are judged before anything is printed: one bad line, and there is no
-answer but a sentence with its number. An empty input has an empty table.
+the order of the lines. With --start a line is an offset after it in seconds,
+with up to three decimals, of at most 4294967.295 (49.7 days), and delta-T is
+the start's throughout; without it a line is a time of its own, of any day, like
+2026-11-15T19:30:30.125Z, with that time's delta-T. All lines are judged before
+anything is printed: one bad line, and there is no answer but a sentence with
+its number. An empty input has an empty table.
 
 ",
         observer_help!(),
@@ -83,7 +84,7 @@ fn of_line(index: usize, line: &str, failure: Failure) -> Failure {
 }
 
 fn rows_after(start: Moment, body: Body, observer: Observer, lines: Vec<String>) -> Result<Vec<Row>, Failure> {
-    let read = |(index, line): (usize, &String)| offset_tenths(line).map_err(|sentence| at_line(index, line, sentence));
+    let read = |(index, line): (usize, &String)| offset_ms(line).map_err(|sentence| at_line(index, line, sentence));
     let offsets: Vec<u32> = lines.iter().enumerate().map(read).collect::<Result<_, _>>()?;
     let scales = observer.scales(start);
     let places = sky::places(observer.view(start), body, &offsets).map_err(|refused| match refused.index {
@@ -102,20 +103,21 @@ fn rows_at_times(body: Body, observer: Observer, lines: Vec<String>) -> Result<V
     lines.into_iter().enumerate().map(answer).collect()
 }
 
-fn offset_tenths(line: &str) -> Result<u32, &'static str> {
-    let tenths = decimal::read(line, SECOND_DECIMALS as usize).map_err(|misread| match misread {
-        Misread::Form => "an offset is written in seconds, like 0, 12 or 12.5",
-        Misread::Decimals => "it has more than one decimal of a second, and the rest would be lost",
+fn offset_ms(line: &str) -> Result<u32, &'static str> {
+    let ms = decimal::read(line, SECOND_DECIMALS as usize).map_err(|misread| match misread {
+        Misread::Form => "an offset is written in seconds, like 0, 12 or 12.125",
+        Misread::Decimals => TOO_FINE,
         Misread::Size => TOO_FAR,
     })?;
-    match u32::try_from(tenths) {
+    match u32::try_from(ms) {
         Ok(offset) => Ok(offset),
-        Err(_) if tenths < 0 => Err("an offset does not go back before the start"),
+        Err(_) if ms < 0 => Err("an offset does not go back before the start"),
         Err(_) => Err(TOO_FAR),
     }
 }
 
-const TOO_FAR: &str = "an offset is at most 429496729.5 seconds";
+const TOO_FAR: &str = "an offset is at most 4294967.295 seconds (49.7 days); \
+    for a longer track leave --start out and write each line as a time, like 2026-11-15T19:30:30.125Z";
 
 // ---- the three forms
 
@@ -182,15 +184,16 @@ mod tests {
     use super::*;
 
     #[test]
-    fn offsets_are_tenths() {
-        assert_eq!(offset_tenths("0"), Ok(0));
-        assert_eq!(offset_tenths("12.5"), Ok(125));
-        assert_eq!(offset_tenths("429496729.5"), Ok(u32::MAX));
-        for line in [
-            "", " 1", "1 ", "1\r", "-1", "+1", "12.55", "429496729.6", "1e3", "1,5", "0x1", "nan", "99999999999999999999",
-            "2026-11-15T19:30Z",
-        ] {
-            assert!(offset_tenths(line).is_err(), "{line:?}");
+    fn offsets_are_milliseconds() {
+        for (line, ms) in [("0", 0), ("12.5", 12_500), ("12.25", 12_250), ("0.001", 1), ("4294967.295", u32::MAX)] {
+            assert_eq!(offset_ms(line), Ok(ms));
+        }
+        for line in ["", " 1", "1 ", "1\r", "-1", "+1", "1e3", "1,5", "0x1", "nan", "2026-11-15T19:30Z"] {
+            assert!(offset_ms(line).is_err(), "{line:?}");
+        }
+        assert_eq!((offset_ms("0.0001"), offset_ms("12.5000")), (Err(TOO_FINE), Err(TOO_FINE)));
+        for line in ["4294967.296", "429496729.5", "99999999999999999999"] {
+            assert_eq!(offset_ms(line), Err(TOO_FAR), "{line}");
         }
     }
 }

@@ -6,7 +6,7 @@ use crate::format::{self, format_help, no_azimuth_words, shown_place, Format};
 use crate::observer::{self, observer_help, scales_words, zone_help, Observer};
 use crate::rise_set::{passed_degrees, Day, Days};
 use crate::sky::{self, Body, Place};
-use crate::time::Moment;
+use crate::time::{Moment, MS_OF_MINUTE};
 use crate::words::{Command, Words};
 
 pub const COMMAND: Command = Command {
@@ -37,7 +37,6 @@ at the usual sunrise. Elevations are without refraction. DATE is like
 };
 
 const MINUTES_OF_DAY: u32 = 24 * 60;
-const TENTHS_OF_MINUTE: u32 = 600;
 
 struct Row {
     moment: Moment,
@@ -81,7 +80,7 @@ fn minutes(word: &str) -> Result<u32, Failure> {
 }
 
 fn rows(observer: Observer, midnight: Moment, every: u32) -> Result<Vec<Row>, Failure> {
-    let offsets: Vec<u32> = (0..MINUTES_OF_DAY).step_by(every as usize).map(|minute| minute * TENTHS_OF_MINUTE).collect();
+    let offsets: Vec<u32> = (0..MINUTES_OF_DAY).step_by(every as usize).map(|minute| minute * MS_OF_MINUTE as u32).collect();
     let view = observer.view(midnight);
     let sun = sky::places(view, Body::Sun, &offsets)?;
     let moon = sky::places(view, Body::Moon, &offsets)?;

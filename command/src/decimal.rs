@@ -52,13 +52,12 @@ pub fn written(value: i64, decimals: u32) -> String {
     }
 }
 
-/// The same without the zeros at the end, nor the point where nothing follows it: for running text.
-pub fn short(value: i64, decimals: u32) -> String {
-    let text = written(value, decimals);
-    match decimals {
-        0 => text,
-        _ => text.trim_end_matches('0').trim_end_matches('.').to_string(),
+/// The same without the zeros at the end, down to `least` decimals: -150 with 2 and at least 1 is "-1.5". Without any there is no point either.
+pub fn short(mut value: i64, mut decimals: u32, least: u32) -> String {
+    while decimals > least && value % 10 == 0 {
+        (value, decimals) = (value / 10, decimals - 1);
     }
+    written(value, decimals)
 }
 
 /// To the nearest unit that is 10 to the `places` times as large, halves up.
@@ -104,8 +103,19 @@ mod tests {
         assert_eq!(written(-150, 2), "-1.50");
         assert_eq!(written(7, 0), "7");
         assert_eq!(written(i64::MIN, 1), "-922337203685477580.8");
-        assert_eq!((short(455_000_000, 7), short(0, 7), short(100, 0)), ("45.5".into(), "0".into(), "100".into()));
-        assert_eq!(short(-1_800_000_000, 7), "-180");
+        assert_eq!((short(455_000_000, 7, 0), short(0, 7, 0), short(100, 0, 0)), ("45.5".into(), "0".into(), "100".into()));
+        assert_eq!((short(-1_800_000_000, 7, 0), short(i64::MIN, 1, 0)), ("-180".into(), "-922337203685477580.8".into()));
+        for (milliseconds, seconds) in [
+            (0, "0.0"),
+            (67_000, "67.0"),
+            (67_250, "67.25"),
+            (-400, "-0.4"),
+            (64_184, "64.184"),
+            (-60, "-0.06"),
+            (8_000_000, "8000.0"),
+        ] {
+            assert_eq!(short(milliseconds, 3, 1), seconds);
+        }
     }
 
     #[test]

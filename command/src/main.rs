@@ -55,12 +55,12 @@ const ABOUT: &str = "raddlehue: where the Sun and the Moon stand
 const NOTES: &str = "
 raddlehue COMMAND --help says a command's words; there is raddlehue --version.
 
-Dates are like 2026-11-15, times like 2026-11-15T19:30:30.5Z (seconds and tenth
-may be left out) or 2026-11-16T08:30+13:00, from 1900 to 2100. Degrees have a
-point and at most 7 decimals: 45.5, 45.5N, -105.1786 or 105.1786W. Azimuth
-counts from north over east, elevation from the horizon upward. A body straight
-overhead or straight underfoot has no azimuth: there it reads none, in JSON
-null, and in CSV it is empty.
+Dates are like 2026-11-15, times like 2026-11-15T19:30:30.125Z (seconds, with up
+to three decimals, may be left out) or 2026-11-16T08:30+13:00, from 1900 to
+2100. Degrees have a point and at most 7 decimals: 45.5, 45.5N, -105.1786 or
+105.1786W. Azimuth counts from north over east, elevation from the horizon
+upward. A body straight overhead or straight underfoot has no azimuth: there it
+reads none, in JSON null, and in CSV it is empty.
 
 UT1 minus UTC is 0 and delta-T (TT minus UT1) comes from a table of years unless
 --ut1 and --delta-t give them, and every answer says both. The table (Swiss

@@ -4,7 +4,7 @@ use crate::decimal::{self, Misread};
 use crate::delta_t::{Given, Scales, Source, OBSERVED_TO};
 use crate::failure::{quoted, Failure};
 use crate::sky::{Spot, View, POINT_DECIMALS, SECOND_DECIMALS};
-use crate::time::{Moment, Zone, UTC};
+use crate::time::{Moment, Zone, TOO_FINE, UTC};
 use crate::words::{Flag, Words};
 
 pub const FLAGS: &[Flag] = &[
@@ -21,9 +21,11 @@ macro_rules! observer_help {
         "  --lat DEG         latitude in degrees: 45.5, 45.5N, -45.5 or 45.5S
   --lon DEG         longitude in degrees: 5.2, 5.2E, -105.1786 or 105.1786W
   --height M        whole metres above the sea, -500 to 9000; 0 unless given
-  --ut1 S           UT1 minus UTC in seconds, to the tenth; 0 unless given
-  --delta-t S       delta-T (TT minus UT1) in seconds, to the tenth; from a
-                    table of years unless given (see raddlehue --help)
+  --ut1 S           UT1 minus UTC in seconds, with up to three decimals; 0
+                    unless given
+  --delta-t S       delta-T (TT minus UT1) in seconds, with up to three
+                    decimals; from a table of years unless given (see
+                    raddlehue --help)
 "
     };
 }
@@ -55,11 +57,8 @@ impl Observer {
         let latitude_e7 = degrees(words.required("--lat")?, &LATITUDE)?;
         let longitude_e7 = degrees(words.required("--lon")?, &LONGITUDE)?;
         let height_metres = words.value("--height").map_or(Ok(0), |word| number(word, "height", 0, "whole metres like 1830"))?;
-        let seconds = |flag: &str, what: &str| {
-            let read = |word: &str| number(word, what, SECOND_DECIMALS, "seconds with at most one decimal, like 67 or -0.3");
-            words.value(flag).map(read).transpose()
-        };
-        let given = Given { ut1_tenths: seconds("--ut1", "UT1 minus UTC")?, delta_t_tenths: seconds("--delta-t", "delta-T")? };
+        let ms = |flag: &str, name: &str| words.value(flag).map(|word| seconds_ms(word, name)).transpose();
+        let given = Given { ut1_ms: ms("--ut1", "UT1 minus UTC")?, delta_t_ms: ms("--delta-t", "delta-T")? };
         Ok(Observer { spot: Spot { latitude_e7, longitude_e7, height_metres }, given })
     }
 
@@ -143,7 +142,7 @@ fn degrees(word: &str, side: &Side) -> Result<i64, Failure> {
         return number(word, name, POINT_DECIMALS, &what);
     };
     let digits = &word[..word.len() - letter.len_utf8()];
-    let wrong = |reason: String| Failure::Usage(format!("the {name} {} cannot be read: {reason}; write {what}", quoted(word)));
+    let wrong = |reason: String| unread(word, name, &reason, &what);
     if letter != *positive && letter != *negative {
         return Err(wrong(format!("a {name} ends in {positive} or {negative}, not in {letter}")));
     }
@@ -163,7 +162,7 @@ pub fn point_words(latitude_e7: i64, longitude_e7: i64) -> String {
 
 fn sided(units_e7: i64, side: &Side) -> String {
     let letter = if units_e7 < 0 { side.negative } else { side.positive };
-    format!("{} {letter}", decimal::short(units_e7.abs(), POINT_DECIMALS))
+    format!("{} {letter}", decimal::short(units_e7.abs(), POINT_DECIMALS, 0))
 }
 
 // ---- numbers
@@ -171,6 +170,14 @@ fn sided(units_e7: i64, side: &Side) -> String {
 /// A number of a flag in units of 10 to the minus `decimals`; `would_be` says how it is written.
 pub fn number(word: &str, name: &str, decimals: u32, would_be: &str) -> Result<i64, Failure> {
     decimal::read(word, decimals as usize).map_err(|misread| misread_words(word, name, decimals, would_be, misread))
+}
+
+fn seconds_ms(word: &str, name: &str) -> Result<i64, Failure> {
+    const WOULD_BE: &str = "seconds with up to three decimals, like 67 or -0.123";
+    decimal::read(word, SECOND_DECIMALS as usize).map_err(|misread| match misread {
+        Misread::Decimals => unread(word, name, TOO_FINE, WOULD_BE),
+        other => misread_words(word, name, SECOND_DECIMALS, WOULD_BE, other),
+    })
 }
 
 fn misread_words(word: &str, name: &str, decimals: u32, would_be: &str, misread: Misread) -> Failure {
@@ -181,6 +188,10 @@ fn misread_words(word: &str, name: &str, decimals: u32, would_be: &str, misread:
         Misread::Size => "it is too large".to_string(),
     };
     let reason = if word.is_empty() { "it is empty".to_string() } else { reason };
+    unread(word, name, &reason, would_be)
+}
+
+fn unread(word: &str, name: &str, reason: &str, would_be: &str) -> Failure {
     Failure::Usage(format!("the {name} {} cannot be read: {reason}; write {would_be}", quoted(word)))
 }
 

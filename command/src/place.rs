@@ -20,7 +20,8 @@ pub const COMMAND: Command = Command {
 Azimuth and elevation of the Sun or the Moon at a moment: without refraction,
 or, where the air's pressure and temperature are given, as it is shown, with
 refraction, which is worked from -0.83337 degrees up, where the last rim of
-the Sun sets. TIME is like 2026-11-15T19:30:30.5Z or 2026-11-16T08:30+13:00.
+the Sun sets. TIME is like 2026-11-15T19:30:30.125Z, seconds with up to three
+decimals, or 2026-11-16T08:30+13:00.
 
 ",
         observer_help!(),
@@ -140,7 +141,7 @@ fn why_none(place: Place) -> String {
     if place.elevation_e8 >= LOWEST_REFRACTED_E8 {
         return String::new();
     }
-    format!(", since there is none below {} degrees", decimal::short(LOWEST_REFRACTED_E8, ANGLE_DECIMALS))
+    format!(", since there is none below {} degrees", decimal::short(LOWEST_REFRACTED_E8, ANGLE_DECIMALS, 0))
 }
 
 fn json(answer: &Answer) -> String {

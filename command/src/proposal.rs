@@ -15,7 +15,7 @@ use crate::format::body_name;
 use crate::observer::{self, scales_words, Observer};
 use crate::place::body;
 use crate::sky::{self, Body, Place, TurningPoint, View, ANGLE_DECIMALS, DAY_MINUTES};
-use crate::time::{Moment, UTC};
+use crate::time::{Moment, MS_OF_MINUTE, UTC};
 use crate::words::{Flag, Words};
 
 const FLAGS: &[Flag] = &[("--tolerance", Some("degrees"))];
@@ -28,8 +28,6 @@ macro_rules! tolerance_help {
     };
 }
 use tolerance_help;
-
-const TENTHS_OF_MINUTE: u32 = 600;
 
 /// What both commands ask: whose azimuths, on which date of UTC, from where, and how near.
 struct Question {
@@ -67,7 +65,7 @@ impl Question {
 
     /// "3 degrees".
     fn tolerance_words(&self) -> String {
-        format!("{} degrees", decimal::short(self.tolerance_e8, ANGLE_DECIMALS))
+        format!("{} degrees", decimal::short(self.tolerance_e8, ANGLE_DECIMALS, 0))
     }
 
     /// The lines of a heading, the first of which says what it is.
@@ -78,7 +76,7 @@ impl Question {
 
     /// The day's places, minute by minute.
     fn places(&self) -> Result<Vec<Place>, Failure> {
-        let offsets: Vec<u32> = (0..DAY_MINUTES as u32).map(|minute| minute * TENTHS_OF_MINUTE).collect();
+        let offsets: Vec<u32> = (0..DAY_MINUTES as u32).map(|minute| minute * MS_OF_MINUTE as u32).collect();
         Ok(sky::places(self.view(), self.body, &offsets)?)
     }
 }

@@ -42,7 +42,7 @@ pub fn is_up(elevation_e8: i64) -> bool {
 
 /// "-0.8333", where the centre of a body is when it rises or sets, in degrees.
 pub fn passed_degrees() -> String {
-    decimal::short(RISE_SET_E8, ANGLE_DECIMALS)
+    decimal::short(RISE_SET_E8, ANGLE_DECIMALS, 0)
 }
 
 impl Day {
@@ -159,7 +159,7 @@ mod tests {
         let spots = [(696_492_000, 189_553_000), (-455_000_000, 1_705_000_000), (900_000_000, 0), (0, 902_000_000)];
         for (latitude_e7, longitude_e7) in spots {
             let spot = Spot { latitude_e7, longitude_e7, height_metres: 0 };
-            let offsets = Offsets { ut1_tenths: 0, delta_t_tenths: 691 };
+            let offsets = Offsets { ut1_ms: 0, delta_t_ms: 69_100 };
             for (body, word) in
                 [(Body::Sun, "2026-01-10T00:00Z"), (Body::Sun, "2026-05-12T00:00Z"), (Body::Moon, "2026-11-01T00:00Z")]
             {

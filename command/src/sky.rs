@@ -6,22 +6,22 @@ use crate::time::{Clock, Moment};
 use raddlehue::{Air, Date, FoundStrip, Point, Refusal, Start, StripHeader};
 
 pub use raddlehue::{Body, Eclipse, Place, RiseSet, Shown, Strip, StripAir, StripStep, Which};
-pub use raddlehue::{DAY_MINUTES, LOWEST_REFRACTED_E8, RISE_SET_E8, STRIP_HEADER};
+pub use raddlehue::{DAY_MINUTES, LOWEST_REFRACTED_E8, RISE_SET_E8, SECOND_MS, STRIP_HEADER};
 
 /// Decimals of the library's angles, of a point's degrees, of a second, and of per cent of the Sun's disk in millionths.
 pub const ANGLE_DECIMALS: u32 = 8;
 pub const POINT_DECIMALS: u32 = 7;
-pub const SECOND_DECIMALS: u32 = 1;
+pub const SECOND_DECIMALS: u32 = 3;
 pub const SHARE_DECIMALS: u32 = 4;
 
 pub const DEGREE_E8: i64 = raddlehue::DEGREE_E8;
 pub const VERSION: &str = raddlehue::VERSION;
 
-/// What turns UTC into the two time scales of the sky, in tenths of a second.
+/// What turns UTC into the two time scales of the sky, in milliseconds.
 #[derive(Clone, Copy, Debug, PartialEq, Eq)]
 pub struct Offsets {
-    pub ut1_tenths: i64,
-    pub delta_t_tenths: i64,
+    pub ut1_ms: i64,
+    pub delta_t_ms: i64,
 }
 
 /// Where the observer stands.
@@ -42,13 +42,13 @@ pub struct View {
 
 impl View {
     fn start(self) -> Start {
-        let Offsets { ut1_tenths, delta_t_tenths } = self.offsets;
-        start_of(self.moment.in_utc().clock()).ut1_tenths(ut1_tenths).delta_t_tenths(delta_t_tenths)
+        let Offsets { ut1_ms, delta_t_ms } = self.offsets;
+        start_of(self.moment.in_utc().clock()).ut1_ms(ut1_ms).delta_t_ms(delta_t_ms)
     }
 
     fn date(self) -> Date {
-        let Start { year, month, day, ut1_tenths, delta_t_tenths, .. } = self.start();
-        Date::utc(year, month, day).ut1_tenths(ut1_tenths).delta_t_tenths(delta_t_tenths)
+        let Start { year, month, day, ut1_ms, delta_t_ms, .. } = self.start();
+        Date::utc(year, month, day).ut1_ms(ut1_ms).delta_t_ms(delta_t_ms)
     }
 
     fn point(self) -> Point {
@@ -58,8 +58,8 @@ impl View {
 }
 
 fn start_of(clock: Clock) -> Start {
-    let Clock { date, hour, minute, second, tenth } = clock;
-    Start::utc(date.year, date.month, date.day, hour, minute, second).fraction_tenths(tenth)
+    let Clock { date, hour, minute, second, millisecond } = clock;
+    Start::utc(date.year, date.month, date.day, hour, minute, second).fraction_ms(millisecond)
 }
 
 /// The place without refraction.
@@ -85,11 +85,11 @@ impl From<TrackRefused> for Failure {
     }
 }
 
-/// Places without refraction at offsets in tenths of a second after the view's moment.
-pub fn places(view: View, body: Body, offsets_tenths: &[u32]) -> Result<Vec<Place>, TrackRefused> {
-    raddlehue::places(view.start(), body, view.point(), offsets_tenths).map_err(|refusal| match refusal {
+/// Places without refraction at offsets in milliseconds after the view's moment.
+pub fn places(view: View, body: Body, offsets_ms: &[u32]) -> Result<Vec<Place>, TrackRefused> {
+    raddlehue::places_ms(view.start(), body, view.point(), offsets_ms).map_err(|refusal| match refusal {
         Refusal::TooLate { index } => {
-            let offset = offsets_tenths.get(index).copied().unwrap_or(0);
+            let offset = offsets_ms.get(index).copied().unwrap_or(0);
             TrackRefused { index: Some(index), failure: refused(refusal, view.moment.later(offset)) }
         }
         _ => TrackRefused { index: None, failure: refused(refusal, view.moment) },

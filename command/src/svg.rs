@@ -29,8 +29,8 @@ pub fn degrees(units_e8: i64) -> f64 {
     units_e8 as f64 / DEGREE_E8 as f64
 }
 
-/// Degrees to the tenth, as pictures say them.
-pub fn tenths(units_e8: i64) -> String {
+/// Degrees with one decimal, as pictures say them.
+pub fn one_decimal(units_e8: i64) -> String {
     decimal::written(decimal::rounded(units_e8, 7), 1)
 }
 

@@ -1,15 +1,19 @@
 //! Moments in ISO 8601: dates, times of the day with their zone, and what they are in UTC.
 
 use crate::calendar::Date;
+use crate::decimal;
 use crate::failure::{quoted, Failure};
-use crate::sky;
+use crate::sky::{self, SECOND_DECIMALS, SECOND_MS};
 
-const TENTHS_OF_DAY: i64 = 864_000;
-const TENTHS_OF_MINUTE: i64 = 600;
+pub const MS_OF_MINUTE: i64 = 60 * SECOND_MS;
+pub const MS_OF_DAY: i64 = 24 * 60 * MS_OF_MINUTE;
 
 const DATE_WOULD_BE: &str = "a date is written like 2026-11-15";
-const TIME_WOULD_BE: &str = "a time is written like 2026-11-15T19:30Z, 2026-11-15T19:30:30.5Z or 2026-11-16T08:30+13:00";
+const TIME_WOULD_BE: &str = "a time is written like 2026-11-15T19:30Z, 2026-11-15T19:30:30.125Z or 2026-11-16T08:30+13:00";
 const ZONE_WOULD_BE: &str = "a zone is written Z or like +13:00, from -12:00 to +14:00";
+
+/// Of a time, and of seconds in an offset or a flag.
+pub const TOO_FINE: &str = "it has more than three decimals of a second, and the rest would be lost";
 
 // ---- zones
 
@@ -61,10 +65,10 @@ impl Zone {
 
 // ---- moments
 
-/// A tenth of a second of UTC, counted from 2000-01-01 00:00, and the zone to write it in.
+/// A millisecond of UTC, counted from 2000-01-01 00:00, and the zone to write it in.
 #[derive(Clone, Copy, Debug, PartialEq, Eq, PartialOrd)]
 pub struct Moment {
-    tenths: i64,
+    ms: i64,
     zone: Zone,
 }
 
@@ -75,22 +79,22 @@ pub struct Clock {
     pub hour: i64,
     pub minute: i64,
     pub second: i64,
-    pub tenth: i64,
+    pub millisecond: i64,
 }
 
 impl Clock {
     fn exists(self) -> bool {
-        let Clock { date, hour, minute, second, tenth } = self;
+        let Clock { date, hour, minute, second, millisecond } = self;
         date.exists()
             && (0..24).contains(&hour)
             && (0..60).contains(&minute)
             && (0..60).contains(&second)
-            && (0..10).contains(&tenth)
+            && (0..SECOND_MS).contains(&millisecond)
     }
 
-    fn tenths(self) -> i64 {
+    fn ms(self) -> i64 {
         let seconds = 3_600 * self.hour + 60 * self.minute + self.second;
-        TENTHS_OF_DAY * self.date.day_number() + 10 * seconds + self.tenth
+        MS_OF_DAY * self.date.day_number() + SECOND_MS * seconds + self.millisecond
     }
 }
 
@@ -100,7 +104,7 @@ impl Moment {
         if !clock.exists() {
             return Err(sky::refused_clock(clock));
         }
-        Ok(Moment { tenths: clock.tenths() - TENTHS_OF_MINUTE * zone.minutes, zone })
+        Ok(Moment { ms: clock.ms() - MS_OF_MINUTE * zone.minutes, zone })
     }
 
     /// A time with its zone, from one word.
@@ -114,25 +118,25 @@ impl Moment {
     pub fn midnight(word: &str, zone: Zone) -> Result<Moment, Failure> {
         let unread = || Failure::Usage(format!("the date {} cannot be read: {DATE_WOULD_BE}", quoted(word)));
         let date = date(word.as_bytes()).ok_or_else(unread)?;
-        Moment::at(Clock { date, hour: 0, minute: 0, second: 0, tenth: 0 }, zone)
+        Moment::at(Clock { date, hour: 0, minute: 0, second: 0, millisecond: 0 }, zone)
     }
 
     /// The first moment of a date of UTC that exists.
     pub fn midnight_of(date: Date) -> Moment {
-        Moment { tenths: TENTHS_OF_DAY * date.day_number(), zone: UTC }
+        Moment { ms: MS_OF_DAY * date.day_number(), zone: UTC }
     }
 
-    pub fn later(self, tenths: u32) -> Moment {
-        Moment { tenths: self.tenths + i64::from(tenths), ..self }
+    pub fn later(self, ms: u32) -> Moment {
+        Moment { ms: self.ms + i64::from(ms), ..self }
     }
 
     pub fn minutes_later(self, minutes: usize) -> Moment {
-        Moment { tenths: self.tenths + TENTHS_OF_MINUTE * minutes as i64, ..self }
+        Moment { ms: self.ms + MS_OF_MINUTE * minutes as i64, ..self }
     }
 
     /// Or earlier, where they are below zero.
     pub fn seconds_later(self, seconds: i64) -> Moment {
-        Moment { tenths: self.tenths + 10 * seconds, ..self }
+        Moment { ms: self.ms + SECOND_MS * seconds, ..self }
     }
 
     pub fn in_utc(self) -> Moment {
@@ -141,14 +145,14 @@ impl Moment {
 
     /// What its zone's clock shows.
     pub fn clock(self) -> Clock {
-        let local = self.tenths + TENTHS_OF_MINUTE * self.zone.minutes;
-        let of_day = local.rem_euclid(TENTHS_OF_DAY);
+        let local = self.ms + MS_OF_MINUTE * self.zone.minutes;
+        let of_day = local.rem_euclid(MS_OF_DAY);
         Clock {
-            date: Date::of_day_number(local.div_euclid(TENTHS_OF_DAY)),
-            hour: of_day / 36_000,
-            minute: of_day / 600 % 60,
-            second: of_day / 10 % 60,
-            tenth: of_day % 10,
+            date: Date::of_day_number(local.div_euclid(MS_OF_DAY)),
+            hour: of_day / (60 * MS_OF_MINUTE),
+            minute: of_day / MS_OF_MINUTE % 60,
+            second: of_day / SECOND_MS % 60,
+            millisecond: of_day % SECOND_MS,
         }
     }
 
@@ -162,18 +166,20 @@ impl Moment {
         self.zone
     }
 
-    /// How much of its UTC year is over, and how long that year is, in tenths of a second.
+    /// Its UTC year, how much of it is over, and how long that year is, in milliseconds.
     pub fn of_year(self) -> (i64, i64, i64) {
         let year = self.in_utc().clock().date.year;
-        let new_year = |year| TENTHS_OF_DAY * Date { year, month: 1, day: 1 }.day_number();
-        (year, self.tenths - new_year(year), new_year(year + 1) - new_year(year))
+        let new_year = |year| MS_OF_DAY * Date { year, month: 1, day: 1 }.day_number();
+        (year, self.ms - new_year(year), new_year(year + 1) - new_year(year))
     }
 
-    /// In ISO 8601, the tenth only where there is one.
+    /// In ISO 8601, with as many decimals of the second as it needs.
     pub fn written(self) -> String {
-        let Clock { date, hour, minute, second, tenth } = self.clock();
-        let tenth = if tenth == 0 { String::new() } else { format!(".{tenth}") };
-        format!("{}T{hour:02}:{minute:02}:{second:02}{tenth}{}", date.written(), self.zone.written())
+        let Clock { date, hour, minute, second, millisecond } = self.clock();
+        // ".5" of "0.5", and nothing of "0".
+        let decimals = decimal::short(millisecond, SECOND_DECIMALS, 0);
+        let decimals = decimals.trim_start_matches('0');
+        format!("{}T{hour:02}:{minute:02}:{second:02}{decimals}{}", date.written(), self.zone.written())
     }
 
     /// Hour and minute, for a table whose heading says the date and the zone.
@@ -200,29 +206,33 @@ fn date(word: &[u8]) -> Option<Date> {
     Some(Date { year: number(&[y1, y2, y3, y4])?, month: number(&[m1, m2])?, day: number(&[d1, d2])? })
 }
 
-// Seconds and their tenth may be left out.
+// Seconds, and decimals of them, may be left out.
 fn clock_and_zone(word: &str) -> Option<(Clock, Zone)> {
     let (day, rest) = word.split_once('T')?;
     let date = date(day.as_bytes())?;
     let zone_at = rest.find(['Z', '+', '-'])?;
     let (time, zone) = rest.split_at(zone_at);
     let zone = Zone::parsed(zone)?;
-    let (h, m, s, tenth) = match *time.as_bytes() {
-        [h1, h2, b':', m1, m2] => ([h1, h2], [m1, m2], *b"00", *b"0"),
-        [h1, h2, b':', m1, m2, b':', s1, s2] => ([h1, h2], [m1, m2], [s1, s2], *b"0"),
-        [h1, h2, b':', m1, m2, b':', s1, s2, b'.', t] => ([h1, h2], [m1, m2], [s1, s2], [t]),
+    let (time, decimals) = time.split_once('.').map_or((time, None), |(time, decimals)| (time, Some(decimals)));
+    let (h, m, s) = match *time.as_bytes() {
+        [h1, h2, b':', m1, m2] if decimals.is_none() => ([h1, h2], [m1, m2], *b"00"),
+        [h1, h2, b':', m1, m2, b':', s1, s2] => ([h1, h2], [m1, m2], [s1, s2]),
         _ => return None,
     };
-    let clock = Clock { date, hour: number(&h)?, minute: number(&m)?, second: number(&s)?, tenth: number(&tenth)? };
-    Some((clock, zone))
+    let millisecond = decimals.map_or(Some(0), milliseconds)?;
+    Some((Clock { date, hour: number(&h)?, minute: number(&m)?, second: number(&s)?, millisecond }, zone))
+}
+
+fn milliseconds(decimals: &str) -> Option<i64> {
+    decimal::read(&format!("0.{decimals}"), SECOND_DECIMALS as usize).ok()
 }
 
 // The two mistakes that are most easily made have sentences of their own.
 fn what_is_wrong(word: &str) -> String {
     let tail = word.split_once('T').map_or("", |(_, tail)| tail);
     let decimals = tail.split_once('.').map_or(0, |(_, part)| part.bytes().take_while(u8::is_ascii_digit).count());
-    if decimals > 1 {
-        format!("it has more than one decimal of a second, and the rest would be lost; {TIME_WOULD_BE}")
+    if decimals > SECOND_DECIMALS as usize {
+        format!("{TOO_FINE}; {TIME_WOULD_BE}")
     } else if !tail.is_empty() && !tail.contains(['Z', '+', '-']) {
         format!("it has no zone; {TIME_WOULD_BE}")
     } else {
@@ -248,9 +258,29 @@ mod tests {
         assert_eq!(utc("2026-11-15T19:30:30Z"), "2026-11-15T19:30:30Z");
         assert_eq!(utc("2026-11-15T19:30Z"), "2026-11-15T19:30:00Z");
         assert_eq!(utc("2026-11-16T08:30+13:00"), "2026-11-15T19:30:00Z");
-        assert_eq!(utc("2026-12-31T23:59:59.9-00:30"), "2027-01-01T00:29:59.9Z");
+        assert_eq!(utc("2026-12-31T23:59:59.999-00:30"), "2027-01-01T00:29:59.999Z");
         assert_eq!(utc("2101-01-01T05:00+13:00"), "2100-12-31T16:00:00Z");
         assert_eq!(Moment::read("2026-11-16T08:30+13:00").unwrap().written(), "2026-11-16T08:30:00+13:00");
+    }
+
+    #[test]
+    fn decimals_of_a_second_are_kept() {
+        for (decimals, millisecond, written) in [
+            (".5", 500, ".5"),
+            (".25", 250, ".25"),
+            (".125", 125, ".125"),
+            (".06", 60, ".06"),
+            (".001", 1, ".001"),
+            (".999", 999, ".999"),
+            (".500", 500, ".5"),
+            (".0", 0, ""),
+            (".000", 0, ""),
+        ] {
+            let moment = Moment::read(&format!("2026-11-15T19:30:09{decimals}Z")).unwrap();
+            assert_eq!((moment.clock().second, moment.clock().millisecond), (9, millisecond), "{decimals}");
+            assert_eq!(moment.written(), format!("2026-11-15T19:30:09{written}Z"));
+        }
+        assert_eq!(Moment::read("1999-12-31T23:59:59.999Z").unwrap().later(1), Moment::read("2000-01-01T00:00Z").unwrap());
     }
 
     #[test]
@@ -259,6 +289,8 @@ mod tests {
             "", "T", "Z", "2026-11-15", "2026-11-15T", "2026-11-15TZ", "2026-11-15T19Z", "2026-11-15 19:30Z",
             "2026-11-15t19:30z", "2026-11-15T19:30z", "2026-8-9T00:00Z", "26-11-15T19:30Z", "2026-11-15T9:30Z",
             "2026-11-15T19:30:30,5Z", "2026-11-15T19:30:30.Z", "2026-11-15T19:30:30.5", "2026-11-15T19:30+13",
+            "2026-11-15T19:30.5Z", "2026-11-15T19:30:30.5.5Z", "2026-11-15T19:30:30.1234Z", "2026-11-15T19:30:30.0000Z",
+            "2026-11-15T19:30:30.5 Z", "2026-11-15T19:30:30.1e1Z", "2026-11-15T19:30:30.٥Z", "2026-11-15T.5Z",
             "2026-11-15T19:30+1300", "2026-11-15T19:30-00:00", "2026-11-15T19:30+14:01", "2026-11-15T19:30-12:01",
             "2026-11-15T19:30+13:60", "2026-11-15T19:30Z ", " 2026-11-15T19:30Z", "2026-11-15T19:30ZZ", "2026-W46-7T19:30Z",
             "+2026-11-15T19:30Z",
@@ -267,7 +299,7 @@ mod tests {
             assert!(matches!(Moment::read(word), Err(Failure::Usage(_))), "{word:?}");
             assert!(sentence(word).contains(&format!("{word:?}")), "{word:?}");
         }
-        assert!(sentence("2026-11-15T19:30:30.55Z").contains("more than one decimal"));
+        assert!(sentence("2026-11-15T19:30:30.1234Z").contains(TOO_FINE));
         assert!(sentence("2026-11-15T19:30:30").contains("no zone"));
     }
 
@@ -304,7 +336,7 @@ mod tests {
     fn midnight_is_that_of_the_zone() {
         let midnight = Moment::midnight("2026-11-15", Zone::read("+13:00").unwrap()).unwrap();
         assert_eq!(midnight.in_utc().written(), "2026-11-14T11:00:00Z");
-        assert_eq!(midnight.later(36_000).hour_and_minute(), "01:00");
+        assert_eq!(midnight.later(3_600_000).hour_and_minute(), "01:00");
         let later = midnight.minutes_later(61);
         assert_eq!((later.hour_and_minute(), later.minute_of_day(), later.in_utc().minute_of_day()), ("01:01".into(), 61, 721));
         let earlier = midnight.seconds_later(-1);
@@ -320,6 +352,6 @@ mod tests {
     #[test]
     fn the_part_of_a_year() {
         let moment = Moment::read("2024-12-31T00:00Z").unwrap();
-        assert_eq!(moment.of_year(), (2024, 365 * TENTHS_OF_DAY, 366 * TENTHS_OF_DAY));
+        assert_eq!(moment.of_year(), (2024, 365 * MS_OF_DAY, 366 * MS_OF_DAY));
     }
 }

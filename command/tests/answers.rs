@@ -250,7 +250,7 @@ fn no_path_jumps() {
     let skies = [
         ("2003-10-17", "39.742476", "-105.1786"),     // the north
         ("2026-11-15", "-45.5", "170.5"),             // the south
-        ("2026-05-28", "21.4225", "39.8262"),         // the Sun a tenth of a degree from the zenith
+        ("2026-05-28", "21.4225", "39.8262"),         // the Sun 0.1 degree from the zenith
         ("2027-05-28", "21.5390192", "-158.1709847"), // the Sun goes through the zenith itself
         ("2026-11-15", "-21.5680134", "40.3360749"),  // the Moon does
         ("2026-03-20", "0", "0"),                     // the equator at an equinox

@@ -232,7 +232,7 @@ fn decimal(units: &str, decimals: usize) -> String {
     format!("{sign}{whole}.{part}")
 }
 
-// They have tenths of a second, UT1 minus UTC and delta-T at either end, and every decimal of a point; a unit beside each there is an azimuth.
+// They have decimals of a second, UT1 minus UTC and delta-T at either end, and every decimal of a point; a unit beside each there is an azimuth.
 #[test]
 fn every_vector_can_be_said_in_words() {
     let mut without = 0;
@@ -240,12 +240,12 @@ fn every_vector_can_be_said_in_words() {
         let (asked, told) = line.split_once(" | ").unwrap();
         let asked: Vec<&str> = asked.split(' ').collect();
         let told: Vec<&str> = told.split(' ').collect();
-        let [body, year, month, day, hour, minute, second, tenth, ut1, delta_t, longitude, latitude, height, "none"] = asked[..]
+        let [body, year, month, day, hour, minute, second, ms, ut1, delta_t, longitude, latitude, height, "none"] = asked[..]
         else {
             continue;
         };
-        let time = format!("{year}-{month:0>2}-{day:0>2}T{hour:0>2}:{minute:0>2}:{second:0>2}.{tenth}Z");
-        let [ut1, delta_t] = [ut1, delta_t].map(|tenths| decimal(tenths, 1));
+        let time = format!("{year}-{month:0>2}-{day:0>2}T{hour:0>2}:{minute:0>2}:{second:0>2}.{ms:0>3}Z");
+        let [ut1, delta_t] = [ut1, delta_t].map(|ms| decimal(ms, 3));
         let [longitude, latitude] = [longitude, latitude].map(|units_e7| decimal(units_e7, 7));
         let here = ["--lat", &latitude, "--lon", &longitude, "--height", height, "--ut1", &ut1, "--delta-t", &delta_t];
         let csv = answer(&[&["place", body, &time, "--csv"], &here[..]].concat(), "");

@@ -367,7 +367,7 @@ fn no_line_runs_across_the_picture() {
         ("sun", "2003-10-17", "39.742476", "-105.1786", "3"),
         ("moon", "2026-11-15", "-45.5", "170.5", "0"),
         ("moon", "2026-11-15", "-45.5", "170.5", "12"),
-        ("sun", "2026-05-28", "21.4225", "39.8262", "5"), // a tenth of a degree from the zenith
+        ("sun", "2026-05-28", "21.4225", "39.8262", "5"), // 0.1 degree from the zenith
         ("sun", "2026-06-21", "9.5", "-79.5", "60"),
         ("sun", "2026-06-21", "9.5", "-79.5", "1000"),
         ("moon", "2026-12-21", "90", "0", "20"),
@@ -401,7 +401,7 @@ fn no_line_runs_across_the_picture() {
 // A letter is about 20 units wide.
 #[test]
 fn the_words_fit_the_sheet() {
-    let here = ["--lat", "45.1234567S", "--lon", "170.1234567W", "--delta-t", "-1234.5", "--ut1", "-0.9"];
+    let here = ["--lat", "45.1234567S", "--lon", "170.1234567W", "--delta-t", "-1234.567", "--ut1", "-0.899"];
     for tolerance in ["0.00000001", "92233720368.54775807"] {
         let svg = picture("moon", "2026-11-15", &here, tolerance);
         for line in svg.lines().filter(|line| line.starts_with("<text x=")) {

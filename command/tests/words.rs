@@ -1,5 +1,6 @@
 //! Hostile words: none of them is answered, and each is named in a sentence.
 
+use raddlehue::Refusal;
 use std::io::Write;
 use std::process::{Command, Output, Stdio};
 
@@ -14,7 +15,7 @@ fn run(words: &[&str], input: &[u8]) -> Output {
 }
 
 /// Not answered, with this status; the sentence on the standard error names the word.
-fn refused(words: &[&str], input: &str, status: i32, named: &str) {
+fn refused(words: &[&str], input: &str, status: i32, named: &str) -> String {
     let output = run(words, input.as_bytes());
     let sentence = String::from_utf8(output.stderr).unwrap();
     assert_eq!(output.status.code(), Some(status), "{words:?}: {sentence}");
@@ -24,6 +25,7 @@ fn refused(words: &[&str], input: &str, status: i32, named: &str) {
         "{words:?}: {sentence}"
     );
     assert!(sentence.contains(&format!("{named:?}")), "{words:?} is not named: {sentence}");
+    sentence
 }
 
 fn here<'a>(words: &[&'a str]) -> Vec<&'a str> {
@@ -91,7 +93,8 @@ fn years() {
 fn times() {
     let words = [
         "2026-08-09", "2026-08-09T12:00", "2026-08-09T12:00:00", "2026-08-09 12:00Z", "2026-08-09T12Z", "2026-08-09T12:00:00,5Z",
-        "2026-08-09T12:00:00.55Z", "2026-08-09T12:00:00.0000Z", "2026-08-09T12:00+1", "2026-08-09T12:00+0100",
+        "2026-08-09T12:00:00.1234Z", "2026-08-09T12:00:00.0000Z", "2026-08-09T12:00+1", "2026-08-09T12:00+0100",
+        "2026-08-09T12:00.5Z", "2026-08-09T12:00:00.Z", "2026-08-09T12:00:00.5.5Z", "2026-08-09T12:00:00.x5Z",
         "2026-08-09T12:00CET", "2026-8-9T12:00Z", "now", "", "1e9", "inf", "nan", "2026-08-09t12:00z", "2026-08-09T1:00Z",
         "2026-08-09T12:00+15:00", "2026-08-09T12:00-00:00",
     ];
@@ -105,6 +108,22 @@ fn times() {
     ] {
         refused(&here(&["place", "moon", word]), "", 1, word);
         refused(&here(&["batch", "moon", "--start", word]), "0\n", 1, word);
+    }
+}
+
+#[test]
+fn a_fourth_decimal_of_a_second() {
+    const LOST: &str = "it has more than three decimals of a second, and the rest would be lost";
+    let (noon, time, seconds) = ("2026-08-09T12:00Z", "2026-08-09T12:00:00.1234Z", "0.1234");
+    for sentence in [
+        refused(&here(&["place", "sun", time]), "", 2, time),
+        refused(&here(&["place", "sun", noon, "--ut1", seconds]), "", 2, seconds),
+        refused(&here(&["place", "sun", noon, "--delta-t", seconds]), "", 2, seconds),
+        refused(&here(&["batch", "sun", "--start", time]), "0\n", 2, time),
+        refused(&here(&["batch", "sun", "--start", noon]), &format!("{seconds}\n"), 1, seconds),
+        refused(&here(&["batch", "sun"]), &format!("{time}\n"), 1, time),
+    ] {
+        assert!(sentence.contains(LOST), "{sentence}");
     }
 }
 
@@ -159,21 +178,23 @@ fn degrees() {
 #[test]
 fn other_numbers() {
     for flag in ["--height", "--ut1", "--delta-t"] {
-        for word in ["sixty", "", "6,9", "0x10", "1e1", "inf", "nan", "+5", "1.25", "5 ", "010"] {
+        for word in ["sixty", "", "6,9", "0x10", "1e1", "inf", "nan", "+5", "0.1234", "5.0000", "5 ", "010"] {
             refused(&here(&["day", "2026-08-09", flag, word]), "", 2, word);
         }
     }
-    for (flag, word) in [
-        ("--height", "9001"),
-        ("--height", "-501"),
-        ("--ut1", "1"),
-        ("--ut1", "-1.0"),
-        ("--delta-t", "8000.1"),
-        ("--delta-t", "-8000.1"),
+    for (flag, word, refusal) in [
+        ("--height", "9001", Refusal::Height),
+        ("--height", "-501", Refusal::Height),
+        ("--ut1", "1", Refusal::Ut1),
+        ("--ut1", "0.901", Refusal::Ut1),
+        ("--ut1", "-0.901", Refusal::Ut1),
+        ("--delta-t", "8000.001", Refusal::DeltaT),
+        ("--delta-t", "-8000.001", Refusal::DeltaT),
     ] {
-        refused(&here(&["day", "2026-08-09", flag, word]), "", 1, word);
-        refused(&here(&["year", "2026", flag, word]), "", 1, word);
-        refused(&here(&["eclipse", "2026-08-12", flag, word]), "", 1, word);
+        let said = format!("{flag} {word:?}: refused {}: {}\n", refusal.number(), refusal.sentence());
+        for words in [["day", "2026-08-09"], ["year", "2026"], ["eclipse", "2026-08-12"]] {
+            assert!(refused(&here(&[&words[..], &[flag, word]].concat()), "", 1, word).ends_with(&said), "{words:?}");
+        }
     }
     let at = ["place", "sun", "2026-08-09T12:00Z"];
     for word in ["thin", "", "1e3", "inf", "nan", "1013,2", "0.1234567"] {
@@ -314,24 +335,26 @@ fn lines() {
     let start = here(&["batch", "moon", "--start", "2100-12-31T23:59:59Z"]);
     let times = here(&["batch", "moon"]);
     for line in [
-        "x", "", " ", "0 ", " 0", "-1", "+1", "0.55", "1e1", "0,5", "0x1", "inf", "nan", "010", "0\r", "429496729.6",
+        "x", "", " ", "0 ", " 0", "-1", "+1", "0.1234", "0.5000", "1e1", "0,5", "0x1", "inf", "nan", "010", "0\r", "4294967.296",
         "2026-08-09T12:00Z",
     ] {
         refused(&start, &format!("0\n0.5\n{line}\n0\n"), 1, line);
     }
     refused(&start, "0\n1\n", 1, "1");
+    let sentence = refused(&start, "0\n4294967.296\n", 1, "4294967.296");
+    assert!(sentence.contains("at most 4294967.295 seconds") && sentence.contains("leave --start out"), "{sentence}");
     for line in [
         "0", "", "2026-08-09", "2026-08-09T12:00", "2026-08-32T12:00Z", "2101-01-01T00:00Z", "2026-08-09T12:00Z\r",
-        "2026-08-09T12:00:00.25Z",
+        "2026-08-09T12:00:00.1234Z", "2100-12-31T23:59:59.9999Z",
     ] {
         refused(&times, &format!("2026-08-09T12:00Z\n2026-08-09T12:00Z\n{line}\n"), 1, line);
     }
-    let output = run(&start, b"0\n0.9\n1\nx");
+    let output = run(&start, b"0\n0.999\n1\nx");
     assert!(
         String::from_utf8(output.stderr).unwrap().contains("line 4"),
         "a line that cannot be read is judged before the library is asked"
     );
-    let output = run(&start, b"0\n0.9\n1\n2");
+    let output = run(&start, b"0\n0.999\n1\n2");
     assert!(String::from_utf8(output.stderr).unwrap().contains("line 3, \"1\": refused 13"));
     let output = run(&times, b"2026-08-09T12:00Z\n\xff\n");
     assert_eq!((output.status.code(), output.stdout.len()), (Some(1), 0));

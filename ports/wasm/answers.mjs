@@ -44,8 +44,8 @@ function words(refusal, count) {
 const lend = () => (put(lent, Array(SIDE + ROOM + SIDE).fill(POISON)), lent + 8 * SIDE);
 
 const named = (names, numbers) => Object.fromEntries(names.map((name, i) => [name, numbers[i]]));
-const START = ['year', 'month', 'day', 'hour', 'minute', 'second', 'fraction_tenths', 'ut1_tenths', 'delta_t_tenths'];
-const DATE = ['year', 'month', 'day', 'ut1_tenths', 'delta_t_tenths'];
+const START = ['year', 'month', 'day', 'hour', 'minute', 'second', 'fraction_ms', 'ut1_ms', 'delta_t_ms'];
+const DATE = ['year', 'month', 'day', 'ut1_ms', 'delta_t_ms'];
 const POINT = ['longitude_e7', 'latitude_e7', 'height_metres'];
 const airOf = (given) => ({ kind: code(given[0]), pressure_mbar: double(given[1]), temperature_celsius: double(given[2]) });
 
@@ -82,10 +82,10 @@ const CALLS = {
   middle: [1, (g) => [...g.map(big), lend()], (g) => sky.middle(...g.map(big))],
   refraction: [1, (g) => [big(g[0]), code(g[1]), double(g[2]), double(g[3]), lend()], (g) => sky.refraction(big(g[0]), airOf(g.slice(1)))],
   day_count: [1, (g) => [...g.map(big), lend()], (g) => sky.day_count(...g.map(big))],
-  moon_sums: [3, (g) => [big(g[0]), lend()], (g) => sky.moon_sums(big(g[0]))],
-  sun_sums: [3, (g) => [big(g[0]), lend()], (g) => sky.sun_sums(big(g[0]))],
-  nutation: [3, (g) => [big(g[0]), lend()], (g) => sky.nutation(big(g[0]))],
-  mean_sidereal: [1, (g) => [big(g[0]), lend()], (g) => sky.mean_sidereal(big(g[0]))],
+  moon_sums_ms: [3, (g) => [big(g[0]), lend()], (g) => sky.moon_sums_ms(big(g[0]))],
+  sun_sums_ms: [3, (g) => [big(g[0]), lend()], (g) => sky.sun_sums_ms(big(g[0]))],
+  nutation_ms: [3, (g) => [big(g[0]), lend()], (g) => sky.nutation_ms(big(g[0]))],
+  mean_sidereal_ms: [1, (g) => [big(g[0]), lend()], (g) => sky.mean_sidereal_ms(big(g[0]))],
 };
 const LEAVES = {
   sine: (g) => sky.sine(big(g[0])),
@@ -103,11 +103,11 @@ function batch(given, line) {
   put(buffers, [...Array(CELLS).fill(-7n), ...Array(CELLS).fill(-8n)]);
   list.forEach((offset, i) => view().setUint32(offsets + 4 * i, offset, true));
   const at = (which) => (lengths[which] ? buffers + 8 * CELLS * which : 0);
-  const refusal = raw.raddlehue_batch(start, code(given[9]), point, count ? offsets : 0, BigInt(count), at(0), lengths[0], at(1), lengths[1], lend());
+  const refusal = raw.raddlehue_batch_ms(start, code(given[9]), point, count ? offsets : 0, BigInt(count), at(0), lengths[0], at(1), lengths[1], lend());
   const said = words(refusal, 2);
   const cells = Array.from({ length: 2 * CELLS }, (_, i) => view().getBigInt64(buffers + 8 * i, true));
   // raddlehue.mjs lends buffers that are long enough
-  const ours = sky.batch(...objects(given), list);
+  const ours = sky.batch_ms(...objects(given), list);
   if (refusal === 0 || refusal === 13) {
     const agrees = refusal === 0
       ? list.every((_, i) => ours.azimuths_e8[i] === cells[i] && ours.elevations_e8[i] === cells[CELLS + i]) && ours.azimuths_e8.length === count
@@ -315,7 +315,7 @@ function plan(given, line) {
 }
 
 const LISTS = {
-  batch, day, day_azimuths: dayAzimuths, strip_write: stripWrite, strip_read: stripRead, strip_azimuth: stripAzimuth, strip_find: stripFind, judge, plan };
+  batch_ms: batch, day, day_azimuths: dayAzimuths, strip_write: stripWrite, strip_read: stripRead, strip_azimuth: stripAzimuth, strip_find: stripFind, judge, plan };
 
 const lines = [];
 for (const line of readFileSync(0, 'utf8').split('\n').slice(0, -1)) {

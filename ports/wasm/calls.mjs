@@ -6,7 +6,7 @@ import { AIR_NONE, AIR_STANDARD, MOON, NO_AZIMUTH_E7, NO_DIRECTION_E8, SUN, load
 
 const bytes = readFileSync(process.argv[2]);
 const sky = await load(bytes);
-const start = { year: 2003, month: 10, day: 17, hour: 19, minute: 30, second: 30, fraction_tenths: 0, ut1_tenths: 0, delta_t_tenths: 670 };
+const start = { year: 2003, month: 10, day: 17, hour: 19, minute: 30, second: 30, fraction_ms: 0, ut1_ms: 0, delta_t_ms: 67000 };
 const point = { longitude_e7: -1051786000, latitude_e7: 397424760, height_metres: 1830 };
 
 // the example of its comment, word for word, and the other ways to load
@@ -31,29 +31,29 @@ assert.deepEqual(sky.place(start, 2, point), { refusal: 101 });
 assert.deepEqual(sky.place(start, SUN, point, measured(NaN, 11)), { refusal: 10 });
 
 // a week by the minute, for which the memory has to grow
-const week = Array.from({ length: 7 * 1440 }, (_, minute) => 600 * minute);
-const batch = sky.batch({ ...start, hour: 0, minute: 0, second: 0 }, MOON, point, new Uint32Array(week));
+const week = Array.from({ length: 7 * 1440 }, (_, minute) => 60000 * minute);
+const batch = sky.batch_ms({ ...start, hour: 0, minute: 0, second: 0 }, MOON, point, new Uint32Array(week));
 assert.equal(batch.azimuths_e8.length, week.length);
 for (let minute = 0; minute < week.length; minute += 97) {
   const at = { ...start, day: 17 + Math.floor(minute / 1440), hour: Math.floor((minute % 1440) / 60), minute: minute % 60, second: 0 };
   assert.deepEqual(sky.place(at, MOON, point), { refusal: 0, azimuth_e8: batch.azimuths_e8[minute], elevation_e8: batch.elevations_e8[minute] });
 }
 const eve = { ...start, year: 2100, month: 12, day: 31, hour: 23, minute: 59, second: 59 };
-assert.deepEqual(sky.batch(eve, SUN, point, [0, 9, 10]), { refusal: 13, index: 2 });
-assert.deepEqual(sky.batch(start, SUN, point, []).azimuths_e8, new BigInt64Array(0));
+assert.deepEqual(sky.batch_ms(eve, SUN, point, [0, 999, 1000]), { refusal: 13, index: 2 });
+assert.deepEqual(sky.batch_ms(start, SUN, point, []).azimuths_e8, new BigInt64Array(0));
 
-// the Sun straight over Lahaina on Maui, which has no azimuth: a tenth of a second before it is in the east, and a tenth after in the west
-const noon = { ...start, year: 2005, month: 7, day: 18, hour: 22, minute: 32, second: 59, delta_t_tenths: 647 };
+// the Sun straight over Lahaina on Maui, which has no azimuth: 0.1 s before it is in the east, and 0.1 s after in the west
+const noon = { ...start, year: 2005, month: 7, day: 18, hour: 22, minute: 32, second: 59, delta_t_ms: 64700 };
 const lahaina = { longitude_e7: -1566828813, latitude_e7: 208783487, height_metres: 0 };
 assert.deepEqual(sky.place(noon, SUN, lahaina), { refusal: 0, elevation_e8: 8999999993n });
 assert.deepEqual(Object.keys(sky.shown_place(noon, SUN, lahaina, AIR_STANDARD)), ['refusal', 'elevation_degrees', 'refraction_degrees']);
-const [east, overhead, west] = sky.batch({ ...noon, second: 58, fraction_tenths: 9 }, SUN, lahaina, [0, 1, 2]).azimuths_e8;
+const [east, overhead, west] = sky.batch_ms({ ...noon, second: 58, fraction_ms: 900 }, SUN, lahaina, [0, 100, 200]).azimuths_e8;
 assert.deepEqual([east, overhead, west], [8999156196n, NO_DIRECTION_E8, 26995783452n]);
 assert.deepEqual(sky.middle(east, overhead), { refusal: 15 });
 assert.deepEqual([sky.arctangent(0, 0), sky.arctangent(0, 1)], [undefined, 0n]);
 
 // a day against its places, a rise and a set, a polar day that has neither name, and a refusal
-const date = { year: 2003, month: 10, day: 17, ut1_tenths: 0, delta_t_tenths: 670 };
+const date = { year: 2003, month: 10, day: 17, ut1_ms: 0, delta_t_ms: 67000 };
 const day = sky.day(date, SUN, point);
 assert.deepEqual(Object.keys(day), ['refusal', 'elevations_e8', 'rise_minute', 'set_minute']);
 assert.equal(day.elevations_e8.length, 1440);
@@ -80,7 +80,7 @@ for (const [step, count] of [[1, 1440], [2n, 720], [5, 288], [10, 144]]) {
     assert.equal(BigInt(azimuths_e7[entry]), sky.place(at, MOON, point).azimuth_e8 / 10n);
   }
 }
-const first_day = { year: 1900, month: 1, day: 1, ut1_tenths: -9, delta_t_tenths: -79999 };
+const first_day = { year: 1900, month: 1, day: 1, ut1_ms: -900, delta_t_ms: -7999900 };
 const under_the_sun = { longitude_e7: -1792408461, latitude_e7: -230700717, height_metres: -500 };
 const [none, ...others] = sky.day_azimuths(first_day, SUN, under_the_sun, 10).azimuths_e7;
 assert.ok(none === NO_AZIMUTH_E7 && others.every((azimuth) => azimuth < 3600000000));
@@ -174,11 +174,11 @@ assert.deepEqual(sky.plan({ ...date, day: 32 }, MOON, point, 0), { refusal: 3 })
 assert.deepEqual(sky.plan(date, 2, point, 0), { refusal: 101 });
 
 // no plan: no azimuth at the first minute, and the Sun at noon of an equinox, exactly opposite a minute later; a minute without one is not compared
-const equinox = { year: 2026, month: 3, day: 20, ut1_tenths: 0, delta_t_tenths: 691 };
+const equinox = { year: 2026, month: 3, day: 20, ut1_ms: 0, delta_t_ms: 69100 };
 assert.deepEqual(sky.plan(first_day, SUN, under_the_sun, 1000000), { refusal: 107 });
 assert.deepEqual(sky.plan(equinox, SUN, { longitude_e7: 17322914, latitude_e7: -452846, height_metres: 0 }, 2n ** 64n - 1n), { refusal: 107 });
 const each_minute = Array.from({ length: 1440 }, (_, minute) => minute);
-const { azimuths_e8: worked } = sky.batch({ ...start, ...first_day, hour: 0, minute: 0, second: 0 }, SUN, under_the_sun, each_minute.map((minute) => 600 * minute));
+const { azimuths_e8: worked } = sky.batch_ms({ ...start, ...first_day, hour: 0, minute: 0, second: 0 }, SUN, under_the_sun, each_minute.map((minute) => 60000 * minute));
 assert.deepEqual(sky.judge(first_day, SUN, under_the_sun, 0, each_minute, worked), { refusal: 29 });
 assert.deepEqual(sky.judge(first_day, SUN, under_the_sun, 0, each_minute, worked.map((azimuth, i) => (i === 0 ? 7n : azimuth))), { refusal: 0 });
 for (const wrong of [-1, 0.5, 2n ** 64n]) {
@@ -194,7 +194,7 @@ assert.throws(() => sky.plan(date, MOON, point), TypeError);
 
 // 003, Table 4, its first eclipse; a moment without one; a share by itself, a ring; and refusals
 const pacific = { longitude_e7: 1433617000, latitude_e7: 246117000, height_metres: 0 };
-const morning = { ...start, year: 2009, month: 7, day: 22, hour: 2, minute: 33, second: 0, delta_t_tenths: 664 };
+const morning = { ...start, year: 2009, month: 7, day: 22, hour: 2, minute: 33, second: 0, delta_t_ms: 66400 };
 const whole = { refusal: 0, separation_e8: 45193n, sun_radius_e8: 26236064n, moon_radius_e8: 28346192n, share_millionths: 1000000n };
 assert.deepEqual(sky.eclipse(morning, pacific), whole);
 assert.equal(sky.eclipse(start, point).share_millionths, 0n);
@@ -210,8 +210,22 @@ for (const year of [2003.5, NaN, Infinity, undefined, null, '', 'x', 2n ** 63n, 
   assert.throws(() => sky.place({ ...start, year }, SUN, point), undefined, String(year));
 }
 for (const body of [-1, 0.5, 2 ** 32, '0', 0n, undefined]) assert.throws(() => sky.place(start, body, point), RangeError);
-assert.throws(() => sky.batch(start, SUN, point, [2 ** 32]), RangeError);
+assert.throws(() => sky.batch_ms(start, SUN, point, [2 ** 32]), RangeError);
 assert.throws(() => sky.root(-1n), RangeError);
 assert.throws(() => sky.root(''), TypeError);
 assert.equal(sky.root(2n ** 64n - 1n), 2n ** 32n - 1n);
+
+// times are milliseconds: one that is no whole 0.1 s, and the ends of 4, 5 and 6
+const vector = { year: 1949, month: 1, day: 12, hour: 3, minute: 18, second: 41, fraction_ms: 906, ut1_ms: 31, delta_t_ms: -1239899 };
+assert.deepEqual(sky.place(vector, SUN, { longitude_e7: 612395026, latitude_e7: -325135240, height_metres: 1454 }), { refusal: 0, azimuth_e8: 9971499373n, elevation_e8: 2688456507n });
+for (const [name, last, refusal] of [['fraction_ms', 999, 4], ['ut1_ms', 900, 5], ['delta_t_ms', 8000000, 6]]) {
+  assert.deepEqual([last, last + 1].map((number) => sky.instant({ ...start, [name]: number }).refusal), [0, refusal]);
+}
+assert.deepEqual(sky.batch_ms({ ...eve, fraction_ms: 999 }, SUN, point, [0, 1]), { refusal: 13, index: 1 });
+
+// what was written for version 3, in tenths of a second, is no request
+const { delta_t_ms, ...without } = start;
+assert.throws(() => sky.place({ ...without, delta_t_tenths: 670 }, SUN, point), TypeError);
+assert.throws(() => sky.day({ year: 2003, month: 10, day: 17, ut1_tenths: 0, delta_t_tenths: 670 }, SUN, point), TypeError);
+for (const name of ['batch', 'moon_sums', 'sun_sums', 'nutation', 'mean_sidereal']) assert.equal(sky[name], undefined);
 console.log('wasm: the calls of raddlehue.mjs do as they say');

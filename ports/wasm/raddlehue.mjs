@@ -2,24 +2,24 @@
  *
  *     import { load, SUN, AIR_NONE } from './raddlehue.mjs';
  *     const sky = await load(fetch('raddlehue.wasm'));                      // in node: await load(readFileSync('raddlehue.wasm'))
- *     const start = { year: 2003, month: 10, day: 17, hour: 19, minute: 30, second: 30, fraction_tenths: 0, ut1_tenths: 0, delta_t_tenths: 670 };
+ *     const start = { year: 2003, month: 10, day: 17, hour: 19, minute: 30, second: 30, fraction_ms: 0, ut1_ms: 0, delta_t_ms: 67000 };
  *     const point = { longitude_e7: -1051786000, latitude_e7: 397424760, height_metres: 1830 };
  *     sky.place(start, SUN, point)                                           // { refusal: 0, azimuth_e8: 19434024073n, elevation_e8: 3987204605n }
  *
  * A call gives an object: `refusal` is 0 and the answer's names stand beside it, or it is the number of the refusal, and nothing else (but for the index of a batch, and the
  * minute of a proposal). What an answer does not have is missing, neither 0 nor null: the azimuth of a body straight overhead or straight underfoot, a rise or a set that does not come. Names
- * (an azimuth without C's if_any) and numbers are those of include/raddlehue.h and docs/REFUSALS.md; names say their unit (_e7 and _e8 are 1e-7 and 1e-8 degree, _tenths
- * are tenths of a second, _millionths are of the Sun's disk). Whole numbers may be given as Number or BigInt and come back as BigInt, exact; minutes, degrees, mbar and
+ * (an azimuth without C's if_any) and numbers are those of include/raddlehue.h and docs/REFUSALS.md; names say their unit (_e7 and _e8 are 1e-7 and 1e-8 degree, _ms
+ * are milliseconds, _millionths are of the Sun's disk). Whole numbers may be given as Number or BigInt and come back as BigInt, exact; minutes, degrees, mbar and
  * degrees Celsius are Numbers, and so is all that a strip holds. What is no whole number, or none of 64 bits, is a TypeError or a RangeError; every other number may be given, and what
- * cannot be answered is refused.
+ * cannot be answered is refused. Since version 4 times are milliseconds, under names of their own; an object with the names of version 3, which counted tenths of a second, is a TypeError.
  *
  *     place(start, body, point[, air])         azimuth_e8, which may be missing, elevation_e8
  *     shown_place(start, body, point[, air])   azimuth_degrees, which may be missing, elevation_degrees, refraction_degrees
- *     batch(start, body, point, offsets)       azimuths_e8, elevations_e8: a BigInt64Array each, an entry for each offset (Uint32Array or list, in tenths); where there is no
+ *     batch_ms(start, body, point, offsets_ms) azimuths_e8, elevations_e8: a BigInt64Array each, an entry for each offset (Uint32Array or list, up to 49.7 days); where there is no
  *                                              azimuth its entry is NO_DIRECTION_E8; where the refusal is 13, index: the first offset that is too late
  *     day(date, body, point)                   elevations_e8: a BigInt64Array, the elevation at each of the date's 1,440 minutes of UTC; rise_minute, set_minute: 0 to 1439,
  *                                              the first at which the body is at or above -0.8333 degree and was not the minute before, and the reverse; where there
- *                                              is none, as on a polar day, the name is missing. A date is { year, month, day, ut1_tenths, delta_t_tenths }
+ *                                              is none, as on a polar day, the name is missing. A date is { year, month, day, ut1_ms, delta_t_ms }
  *     day_azimuths(date, body, point, step_minutes)
  *                                              azimuths_e7: a Uint32Array, the azimuth at each step of the date from 00:00 UTC on, rounded down, for a strip; where there is none
  *                                              its entry is NO_AZIMUTH_E7. The step is 1, 2, 5 or 10 minutes
@@ -42,11 +42,11 @@
  *     middle(a_e8, b_e8)                       azimuth_e8
  *     refraction(elevation_e8, air)            refraction_degrees: 0 below -0.83337 degree, as in a shown place
  *     day_count(year, month, day)              days
- *     instant(start)                           ut_tenths, tt_tenths
- *     moon_sums(tt_tenths)                     longitude_e8, latitude_e8, distance_metres
- *     sun_sums(tt_tenths)                      longitude_radians_e10, latitude_radians_e10, radius_au_e10
- *     nutation(tt_tenths)                      longitude_e8, obliquity_e8, true_obliquity_e8
- *     mean_sidereal(ut_tenths)                 sidereal_e8
+ *     instant(start)                           ut_ms, tt_ms
+ *     moon_sums_ms(tt_ms)                      longitude_e8, latitude_e8, distance_metres
+ *     sun_sums_ms(tt_ms)                       longitude_radians_e10, latitude_radians_e10, radius_au_e10
+ *     nutation_ms(tt_ms)                       longitude_e8, obliquity_e8, true_obliquity_e8
+ *     mean_sidereal_ms(ut_ms)                  sidereal_e8
  *     sine(angle_e8), cosine(angle_e8)         a BigInt, times 1e9; nothing is refused by these four
  *     arctangent(y, x)                         a BigInt, 1e-8 degree; undefined where both are zero
  *     root(square)                             a BigInt; the square is 0 up to 2^64 - 1
@@ -67,8 +67,8 @@ export const AIR_NONE = Object.freeze({ kind: 0, pressure_mbar: 0, temperature_c
 export const AIR_STANDARD = Object.freeze({ kind: 1, pressure_mbar: 0, temperature_celsius: 0 });
 export const measured = (pressure_mbar, temperature_celsius) => ({ kind: 2, pressure_mbar, temperature_celsius });
 
-const START = ['year', 'month', 'day', 'hour', 'minute', 'second', 'fraction_tenths', 'ut1_tenths', 'delta_t_tenths'];
-const DATE = ['year', 'month', 'day', 'ut1_tenths', 'delta_t_tenths'];
+const START = ['year', 'month', 'day', 'hour', 'minute', 'second', 'fraction_ms', 'ut1_ms', 'delta_t_ms'];
+const DATE = ['year', 'month', 'day', 'ut1_ms', 'delta_t_ms'];
 const POINT = ['longitude_e7', 'latitude_e7', 'height_metres'];
 const STRIP = ['air', 'body', 'year', 'month', 'day', 'longitude_e7', 'latitude_e7', 'step_minutes'];
 const STRIP_HEADER = 18;
@@ -226,15 +226,15 @@ class Raddlehue {
     return this.#ifAny(this.#doubles(refusal, 'azimuth_degrees', 'elevation_degrees', 'refraction_degrees'), 'azimuth_degrees');
   }
 
-  batch(start, body, point, offsets) {
-    const count = offsets.length;
-    const tenths = codes(offsets, 'offset');
+  batch_ms(start, body, point, offsets_ms) {
+    const count = offsets_ms.length;
+    const offsets = codes(offsets_ms, 'offset');
     const azimuths = this.#room(20 * count);
     const [elevations, list] = [azimuths + 8 * count, azimuths + 16 * count];
     const view = this.#memory(256);
-    tenths.forEach((offset, i) => view.setUint32(list + 4 * i, offset, true));
+    offsets.forEach((offset, i) => view.setUint32(list + 4 * i, offset, true));
     const length = BigInt(count);
-    const refusal = this.#raw.raddlehue_batch(
+    const refusal = this.#raw.raddlehue_batch_ms(
       this.#start(start), code(body, 'body'), this.#point(point), list, length, azimuths, length, elevations, length, this.#answer) >>> 0;
     const answer = { refusal };
     if (refusal === 0) {
@@ -370,26 +370,26 @@ class Raddlehue {
   }
 
   instant(start) {
-    return this.#units(this.#raw.raddlehue_instant(this.#start(start), this.#answer) >>> 0, 'ut_tenths', 'tt_tenths');
+    return this.#units(this.#raw.raddlehue_instant(this.#start(start), this.#answer) >>> 0, 'ut_ms', 'tt_ms');
   }
 
-  moon_sums(tt_tenths) {
-    const refusal = this.#raw.raddlehue_moon_sums(whole(tt_tenths, 'tt_tenths'), this.#answer) >>> 0;
+  moon_sums_ms(tt_ms) {
+    const refusal = this.#raw.raddlehue_moon_sums_ms(whole(tt_ms, 'tt_ms'), this.#answer) >>> 0;
     return this.#units(refusal, 'longitude_e8', 'latitude_e8', 'distance_metres');
   }
 
-  sun_sums(tt_tenths) {
-    const refusal = this.#raw.raddlehue_sun_sums(whole(tt_tenths, 'tt_tenths'), this.#answer) >>> 0;
+  sun_sums_ms(tt_ms) {
+    const refusal = this.#raw.raddlehue_sun_sums_ms(whole(tt_ms, 'tt_ms'), this.#answer) >>> 0;
     return this.#units(refusal, 'longitude_radians_e10', 'latitude_radians_e10', 'radius_au_e10');
   }
 
-  nutation(tt_tenths) {
-    const refusal = this.#raw.raddlehue_nutation(whole(tt_tenths, 'tt_tenths'), this.#answer) >>> 0;
+  nutation_ms(tt_ms) {
+    const refusal = this.#raw.raddlehue_nutation_ms(whole(tt_ms, 'tt_ms'), this.#answer) >>> 0;
     return this.#units(refusal, 'longitude_e8', 'obliquity_e8', 'true_obliquity_e8');
   }
 
-  mean_sidereal(ut_tenths) {
-    return this.#units(this.#raw.raddlehue_mean_sidereal(whole(ut_tenths, 'ut_tenths'), this.#answer) >>> 0, 'sidereal_e8');
+  mean_sidereal_ms(ut_ms) {
+    return this.#units(this.#raw.raddlehue_mean_sidereal_ms(whole(ut_ms, 'ut_ms'), this.#answer) >>> 0, 'sidereal_e8');
   }
 
   sine(angle_e8) {

@@ -23,9 +23,9 @@ static const double pressure = 820.0, temperature = 11.0;
 static uint32_t body, has_azimuth;
 static volatile uint32_t kept;
 
-static const raddlehue_start_t *start;
+static const raddlehue_start_ms_t *start;
 static const raddlehue_point_t *point;
-static raddlehue_date_t date;
+static raddlehue_date_ms_t date;
 static int64_t elevation, a, b;
 static raddlehue_place_t place;
 static raddlehue_shown_place_t shown;
@@ -42,7 +42,7 @@ static raddlehue_strip_part_t part;
 static uint64_t count;
 
 /* A day that is planned, and judged by its plan: its minutes lie where a strip's azimuths do, and their azimuths in the curve. */
-static const raddlehue_date_t planned_date = {2003, 10, 17, 0, 670};
+static const raddlehue_date_ms_t planned_date = {2003, 10, 17, 0, 67000};
 static const raddlehue_point_t planned_point = {-1051786000, 397424760, 1830};
 enum { TOLERANCE = RADDLEHUE_DEGREE_E8 / 100 };
 static uint32_t out_minute;
@@ -52,7 +52,7 @@ static void a_place(void) { kept = raddlehue_place(start, body, point, RADDLEHUE
 static void a_shown_place(void) {
     kept = raddlehue_shown_place(start, body, point, RADDLEHUE_AIR_MEASURED, pressure, temperature, &has_azimuth, &shown);
 }
-static void a_batch(void) { kept = raddlehue_batch(start, body, point, offsets, SAMPLES, azimuths, SAMPLES, elevations, SAMPLES, &told); }
+static void a_batch(void) { kept = raddlehue_batch_ms(start, body, point, offsets, SAMPLES, azimuths, SAMPLES, elevations, SAMPLES, &told); }
 static void a_day(void) { kept = raddlehue_day(&date, body, point, curve, &rise_set); }
 static void a_plan(void) { kept = raddlehue_plan(&planned_date, body, &planned_point, TOLERANCE, day_azimuths, curve, &count); }
 static void a_judge(void) { kept = raddlehue_judge(&planned_date, body, &planned_point, TOLERANCE, day_azimuths, count, curve, count, &out_minute); }
@@ -97,9 +97,9 @@ static __attribute__((noinline)) uint32_t used_by(void (*call)(void)) {
 
 static void choose(int i) {
     const int64_t *n = request[i];
-    start = (const raddlehue_start_t *)(const void *)n;
+    start = (const raddlehue_start_ms_t *)(const void *)n;
     point = (const raddlehue_point_t *)(const void *)(n + 9);
-    date = (raddlehue_date_t){start->year, start->month, start->day, start->ut1_tenths, start->delta_t_tenths};
+    date = (raddlehue_date_ms_t){start->year, start->month, start->day, start->ut1_ms, start->delta_t_ms};
     eclipse = &eclipses[i];
     elevation = n[10] * 10, a = n[9] + 1800000000, b = n[10] * 10 + 9000000000;
 }
@@ -155,7 +155,7 @@ int main(void) {
         i += kept == 0 && start->year < 2100;
     }
     for (uint32_t i = 0; i < SAMPLES; i++) {
-        offsets[i] = i * 600;
+        offsets[i] = i * 60 * RADDLEHUE_SECOND_MS;
     }
     kept = 0;
     row("nothing", nothing, REQUESTS, 1);

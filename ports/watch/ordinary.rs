@@ -4,11 +4,11 @@ use crate::eclipse::are_disks;
 use crate::instant::Instant;
 use crate::request::check_air;
 
-const FURTHEST: i64 = 31_904_733_600;
+const FURTHEST: i64 = 3_190_473_360_000;
 const QUARTER_TURN: i64 = 9_000_000_000;
 
 fn start_of(n: &[i64; 9]) -> Start {
-    Start { year: n[0], month: n[1], day: n[2], hour: n[3], minute: n[4], second: n[5], tenth: n[6], ut1: n[7], delta_t: n[8] }
+    Start { year: n[0], month: n[1], day: n[2], hour: n[3], minute: n[4], second: n[5], millisecond: n[6], ut1: n[7], delta_t: n[8] }
 }
 
 fn point_of(n: &[i64; 3]) -> Point {
@@ -101,7 +101,7 @@ unsafe fn buffer<'a, T>(first: *mut T, length: u64) -> &'a mut [T] {
 }
 
 #[no_mangle]
-pub unsafe extern "C" fn raddlehue_batch(
+pub unsafe extern "C" fn raddlehue_batch_ms(
     start: &[i64; 9], body: u32, point: &[i64; 3], offsets: *const u32, offsets_length: u64, azimuths: *mut i64, azimuths_length: u64,
     elevations: *mut i64, elevations_length: u64, lent: &mut [u64; 2],
 ) -> u32 {
@@ -374,22 +374,22 @@ fn reached(n: i64) -> Result<i64, u8> {
 }
 
 #[no_mangle]
-pub extern "C" fn raddlehue_moon_sums(tt: i64, lent: &mut [i64; 3]) -> u32 {
+pub extern "C" fn raddlehue_moon_sums_ms(tt: i64, lent: &mut [i64; 3]) -> u32 {
     write(reached(tt).map(moon).map(|moon| [moon.longitude, moon.latitude, moon.metres]), lent)
 }
 
 #[no_mangle]
-pub extern "C" fn raddlehue_sun_sums(tt: i64, lent: &mut [i64; 3]) -> u32 {
+pub extern "C" fn raddlehue_sun_sums_ms(tt: i64, lent: &mut [i64; 3]) -> u32 {
     write(reached(tt).map(sun).map(|sun| [sun.longitude, sun.latitude, sun.radius]), lent)
 }
 
 #[no_mangle]
-pub extern "C" fn raddlehue_nutation(tt: i64, lent: &mut [i64; 3]) -> u32 {
+pub extern "C" fn raddlehue_nutation_ms(tt: i64, lent: &mut [i64; 3]) -> u32 {
     write(reached(tt).map(nutation).map(|found| [found.longitude, found.obliquity, found.true_obliquity]), lent)
 }
 
 #[no_mangle]
-pub extern "C" fn raddlehue_mean_sidereal(ut: i64, lent: &mut i64) -> u32 {
+pub extern "C" fn raddlehue_mean_sidereal_ms(ut: i64, lent: &mut i64) -> u32 {
     write(reached(ut).map(mean_sidereal), lent)
 }
 

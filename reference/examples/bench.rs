@@ -6,7 +6,7 @@ use std::time::Instant;
 use raddlehue_reference::{arctangent, batch, cosine, place, root, sine, Air, Body, Point, Start};
 
 const START: Start =
-    Start { year: 2026, month: 3, day: 1, hour: 0, minute: 0, second: 0, tenth: 0, ut1: 1, delta_t: 692 };
+    Start { year: 2026, month: 3, day: 1, hour: 0, minute: 0, second: 0, millisecond: 0, ut1: 100, delta_t: 69_200 };
 const POINT: Point = Point { longitude: -21_000_000, latitude: 514_000_000, height: 60 };
 
 /// Places in one run, a minute apart in a batch.
@@ -35,7 +35,7 @@ fn main() {
                 black_box(place(black_box(start), body, black_box(POINT), Air::None)).expect("accepted");
             }
         });
-        let offsets: Vec<u32> = (0..PLACES).map(|i| 600 * i).collect();
+        let offsets: Vec<u32> = (0..PLACES).map(|i| 60_000 * i).collect();
         let mut azimuths = vec![0; offsets.len()];
         let mut elevations = vec![0; offsets.len()];
         measure(&format!("{name} batch"), PLACES, || {

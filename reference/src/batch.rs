@@ -7,9 +7,9 @@ use crate::request::{check_point, Body, Point, Start};
 /// What stands in a batch's azimuths where a place has none: the largest number, which is no azimuth.
 pub const NO_DIRECTION: i64 = i64::MAX;
 
-/// The body's place, without refraction, at the start plus each offset (tenths of a second): azimuths and
-/// elevations (10⁻⁸ degree) into the two lent buffers, whose entries past the list keep their contents. An azimuth
-/// that is absent is `NO_DIRECTION`; the elevation beside it is the place's.
+/// The body's place, without refraction, at the start plus each offset (milliseconds): azimuths and elevations
+/// (10⁻⁸ degree) into the two lent buffers, whose entries past the list keep their contents. An azimuth that is absent
+/// is `NO_DIRECTION`; the elevation beside it is the place's.
 ///
 /// Gives the count of places. A refusal is its number and an index, which is 0 but for 13: 1 to 9 of the request;
 /// 12 when a buffer is shorter than the list; 13 at the first offset that passes the end of 2100. A refused batch

@@ -10,8 +10,8 @@ pub const MINUTES: usize = 1_440;
 /// A body is up at this elevation without refraction (10⁻⁸ degree), and above it.
 pub const THRESHOLD: i64 = -83_330_000;
 
-/// Tenths of a second in a minute.
-pub(crate) const MINUTE: u32 = 600;
+/// Milliseconds in a minute.
+pub(crate) const MINUTE: u32 = 60_000;
 
 /// A day of UTC, with the two time corrections that hold all day.
 #[derive(Clone, Copy, Debug, PartialEq, Eq)]
@@ -20,9 +20,9 @@ pub struct Date {
     pub year: i64,
     pub month: i64,
     pub day: i64,
-    /// UT1 minus UTC, tenths of a second.
+    /// UT1 minus UTC, milliseconds.
     pub ut1: i64,
-    /// TT minus UT, tenths of a second.
+    /// TT minus UT, milliseconds.
     pub delta_t: i64,
 }
 
@@ -51,7 +51,7 @@ pub fn day(date: Date, body: Body, point: Point, elevations: &mut [i64; MINUTES]
 /// The first moment of the date; its clock exists, so that refusal 4 is never given.
 pub(crate) fn midnight(date: &Date) -> Start {
     let Date { year, month, day, ut1, delta_t } = *date;
-    Start { year, month, day, hour: 0, minute: 0, second: 0, tenth: 0, ut1, delta_t }
+    Start { year, month, day, hour: 0, minute: 0, second: 0, millisecond: 0, ut1, delta_t }
 }
 
 /// The first minute at which the body is up, or is down, and was not at the minute before. The minute before 0 is

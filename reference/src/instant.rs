@@ -1,28 +1,30 @@
 //! An instant in UT and TT, the powers of its time, and polynomials in them.
 
-use crate::numbers::{floor_div, floor_mul_div, reduce};
+use crate::numbers::{floor_div, floor_mul_div, floor_rem, reduce};
 use crate::request::{check_start, Start};
 
-/// Tenths of a second in a Julian century.
-pub const CENTURY: i64 = 31_557_600_000;
-/// Tenths of a second in a Julian millennium.
+/// Milliseconds in a day.
+const DAY: i64 = 86_400_000;
+/// Milliseconds in a Julian century.
+pub const CENTURY: i64 = 3_155_760_000_000;
+/// Milliseconds in a Julian millennium.
 pub const MILLENNIUM: i64 = 10 * CENTURY;
 
 /// The scale of `Time`'s powers.
 const MILLION: i64 = 1_000_000;
 
-/// First moment of UTC that is accepted, 1900-01-01 00:00, in tenths from 2000-01-01 00:00.
-const FIRST_UTC: i64 = 864_000 * -36_524;
+/// First moment of UTC that is accepted, 1900-01-01 00:00, in milliseconds from 2000-01-01 00:00.
+const FIRST_UTC: i64 = DAY * -36_524;
 
-/// Last moment of UTC that is accepted, 2100-12-31 23:59:59.9, in tenths from 2000-01-01 00:00.
-const LAST_UTC: i64 = 864_000 * 36_889 + 863_999;
+/// Last moment of UTC that is accepted, 2100-12-31 23:59:59.999, in milliseconds from 2000-01-01 00:00.
+const LAST_UTC: i64 = DAY * 36_889 + (DAY - 1);
 
-/// An accepted instant, in tenths of a second from 2000-01-01 12:00.
+/// An accepted instant, in milliseconds from 2000-01-01 12:00.
 #[derive(Clone, Copy, Debug, PartialEq, Eq)]
 pub struct Instant {
     pub ut: i64,
     pub tt: i64,
-    /// Tenths from this instant to the last one accepted.
+    /// Milliseconds from this instant to the last one accepted.
     left: i64,
 }
 
@@ -30,22 +32,22 @@ impl Instant {
     /// The start's instant, or refusal 1 to 6.
     pub fn new(start: &Start) -> Result<Self, u8> {
         let utc = check_start(start)?;
-        let ut = utc - 432_000 + start.ut1;
+        let ut = utc - DAY / 2 + start.ut1;
         Ok(Self { ut, tt: ut + start.delta_t, left: LAST_UTC - utc })
     }
 
-    /// Whether the instant so many tenths later is still accepted.
+    /// Whether the instant so many milliseconds later is still accepted.
     pub fn reaches(&self, offset: u32) -> bool {
         i64::from(offset) <= self.left
     }
 
-    /// The instant so many tenths later; the same time corrections hold.
+    /// The instant so many milliseconds later; the same time corrections hold.
     pub fn after(&self, offset: u32) -> Self {
         let offset = i64::from(offset);
         Self { ut: self.ut + offset, tt: self.tt + offset, left: self.left - offset }
     }
 
-    /// The instant so many tenths earlier, where it is accepted; the same time corrections hold.
+    /// The instant so many milliseconds earlier, where it is accepted; the same time corrections hold.
     pub fn before(&self, offset: u32) -> Option<Self> {
         let offset = i64::from(offset);
         let left = self.left + offset;
@@ -53,12 +55,15 @@ impl Instant {
     }
 }
 
-/// A time n in tenths, with its count of centuries u and the powers of u, each times 10⁶.
+/// A time n in milliseconds, with its count of centuries u and the powers of u, each times 10⁶.
 ///
-/// Made from n of an accepted instant; the sums rest on its size (|n| below 2³⁵).
+/// Made from n of an accepted instant; the sums rest on its size (|n| below 2⁴²).
 #[derive(Clone, Copy, Debug)]
 pub struct Time {
     pub n: i64,
+    /// n as whole days and the rest, 0 up to a day.
+    days: i64,
+    of_day: i64,
     pub u: i64,
     pub p2: i64,
     pub p3: i64,
@@ -69,7 +74,19 @@ impl Time {
     pub fn new(n: i64) -> Self {
         let u = floor_div(MILLION * n, CENTURY);
         let p2 = floor_div(u * u, MILLION);
-        Self { n, u, p2, p3: floor_div(p2 * u, MILLION), p4: floor_div(p2 * p2, MILLION) }
+        let (p3, p4) = (floor_div(p2 * u, MILLION), floor_div(p2 * p2, MILLION));
+        Self { n, days: floor_div(n, DAY), of_day: floor_rem(n, DAY), u, p2, p3, p4 }
+    }
+
+    /// c · n / D, floored, D being whole days: how far an angle has moved that moves by c in the time D.
+    ///
+    /// The product passes 64 bits, so c goes with the days, and with the minutes of the day and the milliseconds of the
+    /// minute. Holds for |c| below 2⁴⁶: there are less than 2¹⁶ of each.
+    #[inline(always)]
+    pub fn moved<const D: i64>(&self, c: i64) -> i64 {
+        const { assert!(D % DAY == 0) };
+        let of_day = floor_mul_div::<60_000, 1_440>(c, self.of_day);
+        floor_div(c * self.days + of_day, D / DAY)
     }
 }
 
@@ -92,7 +109,7 @@ impl Polynomial {
     pub fn at(&self, time: &Time) -> i64 {
         reduce(
             self.c0
-                + floor_mul_div::<CENTURY>(self.c1, time.n)
+                + time.moved::<CENTURY>(self.c1)
                 + floor_div(self.c2 * time.p2, MILLION)
                 + floor_div(self.cubic.0 * time.p3, self.cubic.1)
                 + floor_div(self.quartic.0 * time.p4, self.quartic.1),

@@ -8,7 +8,7 @@
 //!
 //! * angles: 10⁻⁸ degree; *reduced* means 0 to 35,999,999,999 by whole turns;
 //! * sines and cosines, and vectors made of them: times 10⁹;
-//! * time: tenths of a second; UT and TT count from 2000-01-01 12:00;
+//! * time: milliseconds; UT and TT count from 2000-01-01 12:00;
 //! * a point's longitude and latitude: 10⁻⁷ degree, longitude east positive; its height: metres;
 //! * azimuth: from north over east; a body straight overhead or underfoot has none.
 //!

@@ -63,7 +63,7 @@ pub struct Moon {
     pub metres: i64,
 }
 
-/// The Moon at an accepted TT (tenths from 2000-01-01 12:00).
+/// The Moon at an accepted TT (milliseconds from 2000-01-01 12:00).
 pub fn moon(tt: i64) -> Moon {
     moon_at(&Time::new(tt))
 }

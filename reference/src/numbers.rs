@@ -36,18 +36,14 @@ pub const fn scaled(a: i64, b: i64) -> i64 {
     floor_div(a * b, ONE)
 }
 
-/// c · n / D, floored, where the product passes 64 bits.
+/// c · n / (A · B), floored, where the product passes 64 bits. A and B are above zero.
 ///
-/// Split as c = 2²²·high + low, it takes two divisions by a constant and no wide arithmetic. Holds for |c| below
-/// 2⁴⁶, |n| below 2³⁶ and D up to 2³⁹.
+/// With n = A·high + low it is (c·high + c·low/A) / B, and a floor inside a floor changes nothing. Holds where c·A and
+/// c·high are below 2⁶².
 #[inline(always)]
-pub const fn floor_mul_div<const D: i64>(c: i64, n: i64) -> i64 {
-    const SPLIT: u32 = 22;
-    debug_assert!(c.unsigned_abs() < 1 << 46 && n.unsigned_abs() < 1 << 36 && 0 < D && D <= 1 << 39);
-    let high = (c >> SPLIT) * n;
-    let low = (c & ((1 << SPLIT) - 1)) * n;
-    let rest = (floor_rem(high, D) << SPLIT) + low;
-    (floor_div(high, D) << SPLIT) + floor_div(rest, D)
+pub const fn floor_mul_div<const A: i64, const B: i64>(c: i64, n: i64) -> i64 {
+    let (high, low) = (floor_div(n, A), floor_rem(n, A));
+    floor_div(c * high + floor_div(c * low, A), B)
 }
 
 /// The angle brought to 0 up to a full turn.
@@ -189,23 +185,23 @@ mod tests {
 
     #[test]
     fn split_products_equal_wide_ones() {
-        fn check<const D: i64>(c: i64, n: i64) {
-            let wide = (i128::from(c) * i128::from(n)).div_euclid(i128::from(D));
-            assert_eq!(i128::from(floor_mul_div::<D>(c, n)), wide, "{c} {n} {D}");
+        fn check<const A: i64, const B: i64>(c: i64, n: i64) {
+            let wide = (i128::from(c) * i128::from(n)).div_euclid(i128::from(A) * i128::from(B));
+            assert_eq!(i128::from(floor_mul_div::<A, B>(c, n)), wide, "{c} {n} {A} {B}");
         }
         let mut next = numbers(7);
         for _ in 0..200_000 {
-            let (c, n) = (next() >> 17, next() >> 27);
-            check::<31_557_600_000>(c, n);
-            check::<315_576_000_000>(c, n);
-            check::<864_000_000>(c, n);
-            check::<10_000_000_000>(c, n);
+            let (c, n) = (next() >> 17, next() >> 32);
+            check::<60_000, 1_440>(c, n);
+            check::<100_000, 100_000>(c >> 2, n);
+            check::<1_440, 60_000>(c, n >> 10);
         }
         for c in [1 - (1 << 46), -1, 0, 1, (1 << 46) - 1] {
-            for n in [1 - (1 << 36), -1, 0, 1, (1 << 36) - 1] {
-                check::<315_576_000_000>(c, n);
-                check::<{ 1 << 39 }>(c, n);
-                check::<1>(c >> 20, n);
+            for n in [1 - (1 << 32), -1, 0, 1, (1 << 32) - 1] {
+                check::<60_000, 1_440>(c, n >> 1);
+                check::<{ 1 << 16 }, 1>(c, n);
+                check::<{ 1 << 16 }, { 1 << 46 }>(c, n);
+                check::<1, 1>(c >> 16, n);
             }
         }
     }

@@ -30,7 +30,7 @@ pub struct Nutation {
     pub true_obliquity: i64,
 }
 
-/// Nutation at an accepted TT (tenths from 2000-01-01 12:00).
+/// Nutation at an accepted TT (milliseconds from 2000-01-01 12:00).
 pub fn nutation(tt: i64) -> Nutation {
     nutation_at(&Time::new(tt))
 }

@@ -12,11 +12,11 @@ pub struct Start {
     pub hour: i64,
     pub minute: i64,
     pub second: i64,
-    /// Tenths of a second, 0 to 9.
-    pub tenth: i64,
-    /// UT1 minus UTC, tenths of a second.
+    /// 0 to 999.
+    pub millisecond: i64,
+    /// UT1 minus UTC, milliseconds.
     pub ut1: i64,
-    /// TT minus UT, tenths of a second.
+    /// TT minus UT, milliseconds.
     pub delta_t: i64,
 }
 
@@ -49,23 +49,24 @@ pub enum Air {
     Measured(f64, f64),
 }
 
-/// Refusals 1 to 6; otherwise UTC as tenths of a second from 2000-01-01 00:00.
+/// Refusals 1 to 6; otherwise UTC as milliseconds from 2000-01-01 00:00.
 pub fn check_start(start: &Start) -> Result<i64, u8> {
     let days = day_count(start.year, start.month, start.day)?;
     let time_exists = (0..24).contains(&start.hour)
         && (0..60).contains(&start.minute)
         && (0..60).contains(&start.second)
-        && (0..10).contains(&start.tenth);
+        && (0..1_000).contains(&start.millisecond);
     if !time_exists {
         return Err(4);
     }
-    if !(-9..=9).contains(&start.ut1) {
+    if !(-900..=900).contains(&start.ut1) {
         return Err(5);
     }
-    if !(-80_000..=80_000).contains(&start.delta_t) {
+    if !(-8_000_000..=8_000_000).contains(&start.delta_t) {
         return Err(6);
     }
-    Ok(864_000 * days + 36_000 * start.hour + 600 * start.minute + 10 * start.second + start.tenth)
+    let seconds = 3_600 * start.hour + 60 * start.minute + start.second;
+    Ok(86_400_000 * days + 1_000 * seconds + start.millisecond)
 }
 
 /// Refusals 7 to 9.

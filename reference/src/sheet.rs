@@ -23,8 +23,8 @@ pub fn sheet(input: &[u8]) -> String {
     output
 }
 
-/// The answer to one line, both without a newline: TT (tenths), L' and mean sidereal time (10⁻⁸ degree), or the
-/// refusal (16 for a line of another form, or 1 to 6).
+/// The answer to one line, both without a newline: TT (milliseconds), L' and mean sidereal time (10⁻⁸ degree), or
+/// the refusal (16 for a line of another form, or 1 to 6).
 pub fn sheet_line(line: &[u8]) -> String {
     match arguments(line) {
         Ok([tt, mean_longitude, sidereal]) => format!("{tt} {mean_longitude} {sidereal}"),
@@ -56,8 +56,8 @@ fn parse(line: &[u8]) -> Option<Start> {
     if words.next().is_some() {
         return None;
     }
-    let [year, month, day, hour, minute, second, tenth, ut1, delta_t] = numbers;
-    Some(Start { year, month, day, hour, minute, second, tenth, ut1, delta_t })
+    let [year, month, day, hour, minute, second, millisecond, ut1, delta_t] = numbers;
+    Some(Start { year, month, day, hour, minute, second, millisecond, ut1, delta_t })
 }
 
 /// A whole number: an optional minus and 1 to 9 digits.

@@ -1,14 +1,14 @@
 //! Sidereal time at Greenwich (report 004, section 3.8).
 
 use crate::instant::Time;
-use crate::numbers::{floor_div, floor_mul_div, reduce, scaled};
+use crate::numbers::{floor_div, reduce, scaled};
 
-/// Mean sidereal time at an accepted UT (tenths from 2000-01-01 12:00), 10⁻⁸ degree, reduced.
+/// Mean sidereal time at an accepted UT (milliseconds from 2000-01-01 12:00), 10⁻⁸ degree, reduced.
 pub fn mean_sidereal(ut: i64) -> i64 {
     let time = Time::new(ut);
     reduce(
         28_046_061_837
-            + floor_mul_div::<864_000_000>(36_098_564_736_629, ut)
+            + time.moved::<86_400_000_000>(36_098_564_736_629)
             + floor_div(387_933 * time.p2, 10_000_000)
             + floor_div(-100 * time.p3, 38_710_000),
     )

@@ -6,10 +6,12 @@ use crate::tables::{SunGroup, SunRow, SUN_LATITUDE, SUN_LONGITUDE, SUN_RADIUS};
 
 /// The part of the table's C·10⁸ and of the millennium that is divided out of both.
 const COMMON: i64 = 5000;
-/// A millennium, less the common part.
-const PERIOD: i64 = MILLENNIUM / COMMON;
+/// Half a millennium, less the common part.
+const HALF_PERIOD: i64 = MILLENNIUM / (2 * COMMON);
 /// A turn in 10⁻⁸ radian.
 const TURN_E8: i64 = 628_318_531;
+/// Whole turns, more than the 2,563 that the fastest row goes back from 2000 to the first instant.
+const MANY_TURNS: i64 = 4_096 * TURN_E8;
 /// A turn in 10⁻¹⁰ radian.
 const TURN_E10: i64 = 62_831_853_072;
 /// Degrees in a radian, times 10⁸.
@@ -29,7 +31,7 @@ pub struct Sun {
 impl Sun {
     /// L in 10⁻⁸ degree, reduced.
     pub fn longitude_degrees(&self) -> i64 {
-        floor_mul_div::<10_000_000_000>(DEGREES, floor_rem(self.longitude, TURN_E10))
+        floor_mul_div::<100_000, 100_000>(DEGREES, floor_rem(self.longitude, TURN_E10))
     }
 
     /// B in 10⁻⁸ degree.
@@ -38,7 +40,7 @@ impl Sun {
     }
 }
 
-/// The Earth from the Sun at an accepted TT (tenths from 2000-01-01 12:00).
+/// The Earth from the Sun at an accepted TT (milliseconds from 2000-01-01 12:00).
 pub fn sun(tt: i64) -> Sun {
     sun_at(&Time::new(tt))
 }
@@ -52,22 +54,28 @@ pub(crate) fn sun_at(time: &Time) -> Sun {
     }
 }
 
-/// n as whole periods and a rest, so that each row's product with n stays inside 64 bits.
+/// n as half periods and a rest, so that each row's product with n stays inside 64 bits. With whole periods the fastest
+/// row's would not.
 struct Phase {
-    whole: i64,
+    halves: i64,
     rest: u64,
 }
 
 impl Phase {
     fn new(n: i64) -> Self {
-        Self { whole: floor_div(n, PERIOD), rest: floor_rem(n, PERIOD) as u64 }
+        Self { halves: floor_div(n, HALF_PERIOD), rest: floor_rem(n, HALF_PERIOD) as u64 }
     }
 
     /// A row's angle B + C·τ in 10⁻⁸ degree, reduced.
+    ///
+    /// c is at most 3,220,013,800 and the rest below 3,155,760,000, so that their product is below 1.02·10¹⁹, which fits
+    /// unsigned (1.84·10¹⁹). There are at most 1,009 halves either way, and c·halves is below 3.3·10¹².
     #[inline(always)]
     fn angle(&self, row: &SunRow) -> i64 {
-        let moved = row.c * self.whole + (row.c as u64 * self.rest / PERIOD as u64) as i64;
-        let radians = floor_rem(row.b + moved, TURN_E8) as u64;
+        let twice_moved = row.c * self.halves + (row.c as u64 * self.rest / HALF_PERIOD as u64) as i64;
+        let moved = twice_moved >> 1;
+        // Not below zero, so that a plain remainder will do.
+        let radians = (row.b + moved + MANY_TURNS) as u64 % TURN_E8 as u64;
         // At most 628,318,530 · 57.29577951, which is below a turn.
         (radians * DEGREES as u64 / 100_000_000) as i64
     }
@@ -77,7 +85,8 @@ impl Phase {
 fn series(groups: &[SunGroup], time: &Time, phase: &Phase) -> i64 {
     let (first, later) = groups.split_first().expect("a series has groups");
     let higher = later.iter().rev().fold(0, |v, group| group_sum(group, phase) + floor_div(v * time.u, 10_000_000));
-    group_sum(first, phase) + floor_mul_div::<MILLENNIUM>(higher, time.n)
+    // |higher| is below 6.3·10¹³, and so below 2⁴⁶.
+    group_sum(first, phase) + time.moved::<MILLENNIUM>(higher)
 }
 
 /// A group's rows added, in 10⁻¹⁰.
@@ -108,8 +117,9 @@ mod tests {
     fn row_angles_equal_the_wide_rule() {
         let groups = SUN_LONGITUDE.iter().chain(&SUN_LATITUDE).chain(&SUN_RADIUS);
         let rows: Vec<&SunRow> = groups.flat_map(|group| group.rows).collect();
-        for step in -40..=40 {
-            let n = step * 787_654_321;
+        // all the range and a little more, then both ends and the least and greatest rests
+        let spread = (-40..=40).map(|step| step * 79_750_000_003);
+        for n in spread.chain([-3_155_724_800_900, -1, 1, HALF_PERIOD - 1, HALF_PERIOD, 3_187_260_800_899]) {
             let phase = Phase::new(n);
             for row in &rows {
                 let moved = (i128::from(row.c * COMMON) * i128::from(n)).div_euclid(i128::from(MILLENNIUM));

@@ -78,8 +78,8 @@ pub struct LatitudeRow {
     pub b: i32,
 }
 
-/// A row of Table A4.3 (report 004): multiples of X0 to X4; a and c in 0.0001 second of arc, b and d in a tenth
-/// of that a century. A blank is 0.
+/// A row of Table A4.3 (report 004): multiples of X0 to X4; a and c in 0.0001 second of arc, b and d in
+/// 0.00001 second of arc a century. A blank is 0.
 pub struct NutationRow {
     pub multiples: [i8; 5],
     pub a: i32,

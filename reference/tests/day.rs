@@ -3,7 +3,7 @@
 use raddlehue_reference::day::{MINUTES, THRESHOLD};
 use raddlehue_reference::*;
 
-const DATE: Date = Date { year: 2003, month: 10, day: 17, ut1: -3, delta_t: 670 };
+const DATE: Date = Date { year: 2003, month: 10, day: 17, ut1: -347, delta_t: 67_183 };
 const POINT: Point = Point { longitude: -1_051_786_000, latitude: 397_424_760, height: 1830 };
 const BODIES: [Body; 2] = [Body::Sun, Body::Moon];
 
@@ -30,7 +30,7 @@ fn rise_set(date: Date, body: Body, point: Point) -> [Option<usize>; 2] {
 fn elevation_at([year, month, day]: [i64; 3], minute: usize, date: &Date, body: Body, point: Point) -> Option<i64> {
     let (hour, minute) = (minute as i64 / 60, minute as i64 % 60);
     let (ut1, delta_t) = (date.ut1, date.delta_t);
-    let start = Start { year, month, day, hour, minute, second: 0, tenth: 0, ut1, delta_t };
+    let start = Start { year, month, day, hour, minute, second: 0, millisecond: 0, ut1, delta_t };
     place(start, body, point, Air::None).ok().map(|place| place.elevation)
 }
 
@@ -63,7 +63,7 @@ fn check_day(date: Date, body: Body, point: Point) {
 
 #[test]
 fn a_day_is_its_places() {
-    let corners = [(-9, -80_000), (9, 80_000), (0, 670)];
+    let corners = [(-900, -8_000_000), (900, 8_000_000), (-1, 67_183)];
     let dates = [[1900, 1, 1], [1900, 1, 2], [1900, 3, 1], [2000, 2, 29], [2000, 3, 1], [2001, 1, 1], [2100, 12, 31]];
     for ([year, month, day], (ut1, delta_t)) in dates.into_iter().zip(corners.into_iter().cycle()) {
         for body in BODIES {
@@ -169,7 +169,7 @@ fn next_to_the_threshold() {
 fn wrong_from(number: u8, far: i64) -> (Date, Point) {
     let pick = |at: u8, good: i64| if at >= number { far } else { good };
     let date =
-        Date { year: pick(1, 2003), month: pick(2, 10), day: pick(3, 17), ut1: pick(5, 0), delta_t: pick(6, 670) };
+        Date { year: pick(1, 2003), month: pick(2, 10), day: pick(3, 17), ut1: pick(5, 0), delta_t: pick(6, 67_000) };
     (date, Point { longitude: pick(7, 0), latitude: pick(8, 0), height: pick(9, 0) })
 }
 
@@ -195,8 +195,8 @@ fn the_edges_of_the_refusals() {
         (1, 1900, 2100, |date, _, to| date.year = to),
         (2, 1, 12, |date, _, to| date.month = to),
         (3, 1, 31, |date, _, to| date.day = to),
-        (5, -9, 9, |date, _, to| date.ut1 = to),
-        (6, -80_000, 80_000, |date, _, to| date.delta_t = to),
+        (5, -900, 900, |date, _, to| date.ut1 = to),
+        (6, -8_000_000, 8_000_000, |date, _, to| date.delta_t = to),
         (7, -1_800_000_000, 1_800_000_000, |_, point, to| point.longitude = to),
         (8, -900_000_000, 900_000_000, |_, point, to| point.latitude = to),
         (9, -500, 9_000, |_, point, to| point.height = to),

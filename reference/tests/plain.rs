@@ -17,12 +17,15 @@ use random::Random;
 
 const TURN: i128 = 36_000_000_000;
 const BILLION: i128 = 1_000_000_000;
-const CENTURY: i128 = 31_557_600_000;
-const MILLENNIUM: i128 = 315_576_000_000;
+const CENTURY: i128 = 3_155_760_000_000;
+const MILLENNIUM: i128 = 31_557_600_000_000;
 
 /// First and last accepted TT.
-const FIRST_TT: i64 = -31_557_248_009;
-const LAST_TT: i64 = 31_872_608_008;
+const FIRST_TT: i64 = -3_155_724_800_900;
+const LAST_TT: i64 = 3_187_260_800_899;
+
+/// Last accepted moment of UTC, from 2000-01-01 00:00.
+const LAST_UTC: i128 = 86_400_000 * 36_889 + 86_399_999;
 
 fn floor(a: i128, b: i128) -> i128 {
     a.div_euclid(b)
@@ -194,8 +197,7 @@ impl Plain {
     }
 
     /// The vector after the parallax, the parallax, and metres or R.
-    fn direction(&self, body: Body, instant: &Instant, point: &Point) -> ([i128; 3], i128, i128) {
-        let (ut, tt) = (i128::from(instant.ut), i128::from(instant.tt));
+    fn direction(&self, body: Body, [ut, tt]: [i128; 2], point: &Point) -> ([i128; 3], i128, i128) {
         let [psi, _, epsilon] = self.nutation(tt);
         let [l, t, p, distance] = self.apparent(body, tt, psi);
         let cos_t = plain_cosine(t);
@@ -212,13 +214,13 @@ impl Plain {
         ([a - times(p, f), b, z - times(p, g)], p, distance)
     }
 
-    fn place(&self, body: Body, instant: &Instant, point: &Point) -> (Option<i128>, i128) {
-        plain_horizontal(self.direction(body, instant, point).0, point)
+    fn place(&self, body: Body, ut_tt: [i128; 2], point: &Point) -> (Option<i128>, i128) {
+        plain_horizontal(self.direction(body, ut_tt, point).0, point)
     }
 
-    fn eclipse(&self, instant: &Instant, point: &Point) -> [i128; 4] {
-        let (s, _, r) = self.direction(Body::Sun, instant, point);
-        let (m, p, metres) = self.direction(Body::Moon, instant, point);
+    fn eclipse(&self, ut_tt: [i128; 2], point: &Point) -> [i128; 4] {
+        let (s, _, r) = self.direction(Body::Sun, ut_tt, point);
+        let (m, p, metres) = self.direction(Body::Moon, ut_tt, point);
         let cross = |i: usize, j: usize| times(s[i], m[j]) - times(s[j], m[i]);
         let length = (cross(1, 2).pow(2) + cross(2, 0).pow(2) + cross(0, 1).pow(2)).isqrt();
         let dot = times(s[0], m[0]) + times(s[1], m[1]) + times(s[2], m[2]);
@@ -288,8 +290,21 @@ fn plain_piece(k: i128, r: i128) -> i128 {
 
 fn plain_sidereal(ut: i128) -> i128 {
     let [_, p2, p3, _] = powers(ut);
-    let days = floor(36_098_564_736_629 * ut, 864_000_000);
+    let days = floor(36_098_564_736_629 * ut, 86_400_000_000);
     (28_046_061_837 + days + floor(387_933 * p2, 10_000_000) + floor(-100 * p3, 38_710_000)).rem_euclid(TURN)
+}
+
+/// UTC of an accepted start, from 2000-01-01 00:00.
+fn plain_utc(start: &Start) -> i128 {
+    let days = day_count(start.year, start.month, start.day).unwrap();
+    let seconds = 60 * (60 * start.hour + start.minute) + start.second;
+    i128::from(86_400_000 * days + 1_000 * seconds + start.millisecond)
+}
+
+/// UT and TT of an accepted start plus an offset.
+fn plain_ut_tt(start: &Start, offset: u32) -> [i128; 2] {
+    let ut = plain_utc(start) + i128::from(offset) - 43_200_000 + i128::from(start.ut1);
+    [ut, ut + i128::from(start.delta_t)]
 }
 
 /// u, p2, p3, p4.
@@ -319,9 +334,9 @@ impl Random {
             hour: self.edgy(0, 23),
             minute: self.edgy(0, 59),
             second: self.edgy(0, 59),
-            tenth: self.edgy(0, 9),
-            ut1: self.edgy(-9, 9),
-            delta_t: self.edgy(-80_000, 80_000),
+            millisecond: self.edgy(0, 999),
+            ut1: self.edgy(-900, 900),
+            delta_t: self.edgy(-8_000_000, 8_000_000),
         }
     }
 
@@ -351,6 +366,20 @@ fn sums() {
     }
 }
 
+/// Whatever moves with the time, over every divisor of the rules and for |c| up to the bound.
+#[test]
+fn products_with_the_time() {
+    const MOST: i64 = (1 << 46) - 1;
+    let mut random = Random(37);
+    for _ in 0..100_000 {
+        let (n, c) = (random.edgy(FIRST_TT, LAST_TT), random.edgy(-MOST, MOST));
+        let (time, product) = (Time::new(n), i128::from(c) * i128::from(n));
+        let moved = [time.moved::<3_155_760_000_000>(c), time.moved::<31_557_600_000_000>(c)];
+        assert_eq!(moved.map(i128::from), [floor(product, CENTURY), floor(product, MILLENNIUM)], "{c} {n}");
+        assert_eq!(i128::from(time.moved::<86_400_000_000>(c)), floor(product, 86_400_000_000), "{c} {n}");
+    }
+}
+
 #[test]
 fn sidereal_times_and_arguments() {
     let plain = Plain::new();
@@ -370,16 +399,54 @@ fn sidereal_times_and_arguments() {
 fn places() {
     let plain = Plain::new();
     let mut random = Random(43);
-    let (mut first, mut last) = (0, 0);
+    let mut uneven = 0;
     for _ in 0..1_500 {
         let (start, point) = (random.start(), random.point());
-        let instant = Instant::new(&start).unwrap();
-        (first, last) = (instant.tt.min(first), instant.tt.max(last));
+        let Instant { ut, tt, .. } = Instant::new(&start).unwrap();
+        assert_eq!([ut, tt].map(i128::from), plain_ut_tt(&start, 0), "{start:?}");
+        assert!((FIRST_TT..=LAST_TT).contains(&tt), "{start:?}");
+        uneven += usize::from(ut % 100 != 0 && tt % 100 != 0);
         for body in [Body::Sun, Body::Moon] {
             check_place(&plain, body, start, point);
         }
     }
-    assert!(FIRST_TT <= first && last <= LAST_TT);
+    // no multiples of 100, as all of them were before milliseconds
+    assert!(uneven > 1_300, "{uneven}");
+}
+
+/// Starts of the last two months, since the greatest offset is less than 50 days.
+#[test]
+fn batches() {
+    let plain = Plain::new();
+    let mut random = Random(71);
+    let mut refused = 0;
+    for turn in 0..400 {
+        let month = random.within(11, 12);
+        let start = Start { year: 2100, month, day: random.edgy(1, 30), ..random.start() };
+        let (body, point) = ([Body::Sun, Body::Moon][turn % 2], random.point());
+        let left = LAST_UTC - plain_utc(&start);
+        // up to the last moment, and half the time one beyond it, where an offset goes so far
+        let [last, beyond] = [left, left + 1].map(|offset| offset.min(u32::MAX.into()) as i64);
+        let mut offsets = [0; 3].map(|_| random.edgy(0, last) as u32);
+        if turn % 4 < 2 {
+            offsets[random.within(0, 2) as usize] = random.edgy(beyond, u32::MAX.into()) as u32;
+        }
+        let bad = offsets.iter().position(|&offset| i128::from(offset) > left);
+        let (mut azimuths, mut elevations) = ([-7; 3], [-8; 3]);
+        let answer = batch(start, body, point, &offsets, &mut azimuths, &mut elevations);
+        assert_eq!(answer, bad.map_or(Ok(3), |index| Err((13, index))), "{start:?} {offsets:?}");
+        if bad.is_some() {
+            assert_eq!((azimuths, elevations), ([-7; 3], [-8; 3]));
+            refused += 1;
+            continue;
+        }
+        for (i, offset) in offsets.into_iter().enumerate() {
+            let (azimuth, elevation) = plain.place(body, plain_ut_tt(&start, offset), &point);
+            let expected = (azimuth.unwrap_or(i64::MAX.into()), elevation);
+            assert_eq!((azimuths[i].into(), elevations[i].into()), expected, "{start:?} {offset} {point:?}");
+        }
+    }
+    assert!((80..320).contains(&refused), "{refused}");
 }
 
 /// Straight overhead and underfoot, and next to it.
@@ -398,7 +465,7 @@ fn places_without_azimuth() {
 
 fn check_place(plain: &Plain, body: Body, start: Start, point: Point) -> Place {
     let found = place(start, body, point, Air::None).unwrap();
-    let expected = plain.place(body, &Instant::new(&start).unwrap(), &point);
+    let expected = plain.place(body, plain_ut_tt(&start, 0), &point);
     let got = (found.azimuth.map(i128::from), i128::from(found.elevation));
     assert_eq!(got, expected, "{body:?} {start:?} {point:?}");
     found
@@ -413,12 +480,12 @@ fn eclipses() {
     for turn in 0..1_000 {
         let (mut start, mut point) = (random.start(), random.point());
         if turn % 2 == 0 {
-            start = Start { year: 2009, month: 7, day: 22, hour: 2, delta_t: 664, ..start };
+            start = Start { year: 2009, month: 7, day: 22, hour: 2, delta_t: 66_400, ..start };
             let (longitude, latitude) = (random.within(1_300_000_000, 1_600_000_000), random.within(0, 400_000_000));
             point = Point { longitude, latitude, ..point };
         }
         let Eclipse { separation, sun_radius, moon_radius, share } = eclipse(start, point).unwrap();
-        let expected = plain.eclipse(&Instant::new(&start).unwrap(), &point);
+        let expected = plain.eclipse(plain_ut_tt(&start, 0), &point);
         let got = [separation, sun_radius, moon_radius, share].map(i128::from);
         assert_eq!(got, expected, "{start:?} {point:?}");
         covered += usize::from(share > 0);

@@ -276,11 +276,11 @@ fn the_verdict_is_the_plain_one() {
 
 // ---- a request
 
-const DATE: Date = Date { year: 2003, month: 10, day: 17, ut1: -3, delta_t: 670 };
+const DATE: Date = Date { year: 2003, month: 10, day: 17, ut1: -347, delta_t: 67_183 };
 const POINT: Point = Point { longitude: -1_051_786_000, latitude: 397_424_760, height: 1830 };
 
 /// Minute 0 of the first day straight below the Sun (tests/vectors/overhead.txt).
-const OVERHEAD_DATE: Date = Date { year: 1900, month: 1, day: 1, ut1: -9, delta_t: -79_999 };
+const OVERHEAD_DATE: Date = Date { year: 1900, month: 1, day: 1, ut1: -900, delta_t: -7_999_900 };
 const OVERHEAD: Point = Point { longitude: -1_792_408_461, latitude: -230_700_717, height: -500 };
 
 #[test]
@@ -290,7 +290,7 @@ fn each_minute_is_a_place() {
         let curve = azimuth_curve(DATE, body, POINT).expect("accepted");
         for (minute, azimuth) in (0..).zip(curve) {
             let (hour, minute) = (minute / 60, minute % 60);
-            let start = Start { year, month, day, hour, minute, second: 0, tenth: 0, ut1, delta_t };
+            let start = Start { year, month, day, hour, minute, second: 0, millisecond: 0, ut1, delta_t };
             assert_eq!(azimuth, place(start, body, POINT, Air::None).expect("accepted").azimuth, "{minute}");
         }
     }

@@ -5,7 +5,7 @@ use raddlehue_reference::moon::arguments;
 use raddlehue_reference::*;
 
 const START: Start =
-    Start { year: 2003, month: 10, day: 17, hour: 19, minute: 30, second: 30, tenth: 0, ut1: 0, delta_t: 670 };
+    Start { year: 2003, month: 10, day: 17, hour: 19, minute: 30, second: 30, millisecond: 0, ut1: 0, delta_t: 67_000 };
 const POINT: Point = Point { longitude: -1_051_786_000, latitude: 397_424_760, height: 1830 };
 
 #[test]
@@ -15,8 +15,8 @@ fn cases_by_hand() {
     assert_eq!(day_count(2000, 2, 29), Ok(59));
     assert_eq!(day_count(1900, 2, 29), Err(3));
     assert_eq!(arguments(&Time::new(0))[0], 21_831_644_770);
-    assert_eq!(arguments(&Time::new(864_000))[0], 23_149_284_417);
-    assert_eq!(mean_sidereal(-864_000), 27_947_497_100);
+    assert_eq!(arguments(&Time::new(86_400_000))[0], 23_149_284_417);
+    assert_eq!(mean_sidereal(-86_400_000), 27_947_497_100);
     assert_eq!(sine(3_000_000_000), 500_000_000);
     assert_eq!(sine(27_000_000_000), -1_000_000_000);
     assert_eq!(sine(8_999_869_268), 1_000_000_001);
@@ -48,16 +48,28 @@ fn the_days_run_on() {
 #[test]
 fn the_sheet_of_the_rules() {
     let input = b"2000 1 2 12 0 0 0 0 0\n2100 2 29 0 0 0 0 0 0";
-    assert_eq!(sheet(input), "TT LPRIME GMST\n864000 23149284417 28144626573\nrefused 3\n");
+    assert_eq!(sheet(input), "TT LPRIME GMST\n86400000 23149284417 28144626573\nrefused 3\n");
     assert_eq!(sheet(b""), "TT LPRIME GMST\n");
     assert_eq!(sheet(b"\n"), "TT LPRIME GMST\nrefused 16\n");
+}
+
+/// The seventh to ninth number, and the first that is answered.
+#[test]
+fn the_sheet_counts_milliseconds() {
+    assert_eq!(sheet_line(b"2000 1 1 12 0 0 1 20 300"), "321 21831649665 28046070610");
+    let edges = ["999 -900 -8000000", "999 900 8000000", "1000 901 8000001", "999 901 8000001", "999 900 8000001"];
+    let answers = edges.map(|edge| sheet_line(format!("2000 1 1 12 0 0 {edge}").as_bytes()));
+    assert!(answers[0].starts_with("-7999901 ") && answers[1].starts_with("8001899 "), "{answers:?}");
+    assert_eq!(answers[2..], ["refused 4", "refused 5", "refused 6"]);
+    assert_eq!(sheet_line(b"2000 1 1 12 0 0 999 -901 -8000001"), "refused 5");
+    assert_eq!(sheet_line(b"2000 1 1 12 0 0 999 -900 -8000001"), "refused 6");
 }
 
 #[test]
 fn lines_of_another_form() {
     let good = "2000 1 2 12 0 0 0 0 0";
-    assert_eq!(sheet_line(good.as_bytes()), "864000 23149284417 28144626573");
-    assert_eq!(sheet_line(b"000002000 01 02 12 -0 00 0 0 -000000000"), "864000 23149284417 28144626573");
+    assert_eq!(sheet_line(good.as_bytes()), "86400000 23149284417 28144626573");
+    assert_eq!(sheet_line(b"000002000 01 02 12 -0 00 0 0 -000000000"), "86400000 23149284417 28144626573");
     for line in [
         "",
         " ",
@@ -96,7 +108,7 @@ fn example_of_the_solar_report() {
 /// Report 003, Table A.1.2: λ, β, Δ and both azimuths. Its zenith angles do not follow from its own equations.
 #[test]
 fn example_of_the_lunar_report() {
-    let start = Start { year: 2009, month: 7, day: 22, hour: 1, minute: 33, second: 0, delta_t: 664, ..START };
+    let start = Start { year: 2009, month: 7, day: 22, hour: 1, minute: 33, second: 0, delta_t: 66_400, ..START };
     let point = Point { longitude: 1_433_616_700, latitude: 246_116_700, height: 0 };
     let tt = Instant::new(&start).unwrap().tt;
     let moon = moon(tt);
@@ -121,9 +133,9 @@ fn wrong_from(number: usize, far: i64) -> (Start, Point, Air) {
         hour: pick(4, 19),
         minute: pick(4, 30),
         second: pick(4, 30),
-        tenth: pick(4, 0),
+        millisecond: pick(4, 0),
         ut1: pick(5, 0),
-        delta_t: pick(6, 670),
+        delta_t: pick(6, 67_000),
     };
     let point = Point { longitude: pick(7, 0), latitude: pick(8, 0), height: pick(9, 0) };
     let pressure = if number <= 10 { f64::NAN } else { 1000.0 };
@@ -156,9 +168,9 @@ fn the_edges_of_the_refusals() {
         (4, 0, 23, |start, _, to| start.hour = to),
         (4, 0, 59, |start, _, to| start.minute = to),
         (4, 0, 59, |start, _, to| start.second = to),
-        (4, 0, 9, |start, _, to| start.tenth = to),
-        (5, -9, 9, |start, _, to| start.ut1 = to),
-        (6, -80_000, 80_000, |start, _, to| start.delta_t = to),
+        (4, 0, 999, |start, _, to| start.millisecond = to),
+        (5, -900, 900, |start, _, to| start.ut1 = to),
+        (6, -8_000_000, 8_000_000, |start, _, to| start.delta_t = to),
         (7, -1_800_000_000, 1_800_000_000, |_, point, to| point.longitude = to),
         (8, -900_000_000, 900_000_000, |_, point, to| point.latitude = to),
     ];
@@ -227,40 +239,50 @@ fn refraction_begins_at_the_lowest_rim() {
 
 #[test]
 fn a_batch_is_its_places() {
-    let offsets = [0, 1, 599, 36_000, 864_000, 86_400_000, 30_681_000, 7];
+    let start = Start { month: 12, millisecond: 987, ..START };
+    let offsets = [0, 1, 99, 59_999, 3_600_000, 86_400_000, u32::MAX, 7];
     for body in [Body::Sun, Body::Moon] {
         let (mut azimuths, mut elevations) = ([-7; 9], [-8; 10]);
-        let count = batch(START, body, POINT, &offsets, &mut azimuths, &mut elevations);
+        let count = batch(start, body, POINT, &offsets, &mut azimuths, &mut elevations);
         assert_eq!(count, Ok(offsets.len()));
         for (i, &offset) in offsets.iter().enumerate() {
-            let expected = place(later(offset), body, POINT, Air::None).unwrap();
+            let expected = place(later(start, offset), body, POINT, Air::None).unwrap();
             assert_eq!((Some(azimuths[i]), elevations[i]), (expected.azimuth, expected.elevation), "{offset}");
         }
         assert_eq!((azimuths[8], &elevations[8..]), (-7, &[-8, -8][..]));
     }
 }
 
-/// The common start, so many tenths later, by the calendar.
-fn later(offset: u32) -> Start {
-    let utc = day_count(START.year, START.month, START.day).unwrap() * 864_000 + 702_300 + i64::from(offset);
-    let (days, tenths) = (utc.div_euclid(864_000), utc.rem_euclid(864_000));
+/// A start, so many milliseconds later, by the calendar.
+fn later(start: Start, offset: u32) -> Start {
+    let seconds = 3_600 * start.hour + 60 * start.minute + start.second;
+    let of_day = 1_000 * seconds + start.millisecond + i64::from(offset);
+    let days = day_count(start.year, start.month, start.day).unwrap() + of_day / 86_400_000;
+    let of_day = of_day % 86_400_000;
     let dates = (1900..=2100).flat_map(|year| (1..=12).map(move |month| (year, month)));
     let (year, month) = dates.rev().find(|&(year, month)| day_count(year, month, 1).unwrap() <= days).unwrap();
     let day = days - day_count(year, month, 1).unwrap() + 1;
-    let (hour, minute) = (tenths / 36_000, tenths / 600 % 60);
-    Start { year, month, day, hour, minute, second: tenths / 10 % 60, tenth: tenths % 10, ..START }
+    let (hour, minute, second) = (of_day / 3_600_000, of_day / 60_000 % 60, of_day / 1_000 % 60);
+    Start { year, month, day, hour, minute, second, millisecond: of_day % 1_000, ..start }
 }
 
 #[test]
 fn a_batch_stops_at_the_end_of_2100() {
-    let start = Start { year: 2100, month: 12, day: 31, hour: 23, minute: 59, second: 59, tenth: 0, ut1: 9, ..START };
-    let run = |offsets: &[u32]| {
+    let run = |start: Start, offsets: &[u32]| {
         let (mut azimuths, mut elevations) = ([-7; 3], [-8; 3]);
         let answer = batch(start, Body::Sun, POINT, offsets, &mut azimuths, &mut elevations);
         (answer, azimuths == [-7; 3] && elevations == [-8; 3])
     };
-    assert_eq!(run(&[9, 0, 9]), (Ok(3), false));
-    assert_eq!(run(&[9, 10, u32::MAX]), (Err((13, 1)), true));
-    assert_eq!(run(&[9, 10, 9, 9]), (Err((12, 0)), true));
-    assert_eq!(run(&[]), (Ok(0), true));
+    let last_second = Start { year: 2100, month: 12, day: 31, hour: 23, minute: 59, second: 59, ut1: 900, ..START };
+    assert_eq!(run(last_second, &[999, 0, 999]), (Ok(3), false));
+    assert_eq!(run(last_second, &[999, 1_000, u32::MAX]), (Err((13, 1)), true));
+    assert_eq!(run(last_second, &[999, 1_000, 999, 999]), (Err((12, 0)), true));
+    assert_eq!(run(last_second, &[]), (Ok(0), true));
+    let last = Start { millisecond: 999, ..last_second };
+    assert_eq!(run(last, &[0, 0, 0]), (Ok(3), false));
+    assert_eq!(run(last, &[0, 0, 1]), (Err((13, 2)), true));
+    // 2³² - 1 milliseconds, 49 d 17 h 2 min 47.295 s, before the last
+    let farthest = Start { month: 11, day: 12, hour: 6, minute: 57, second: 12, millisecond: 704, ..last };
+    assert_eq!(run(farthest, &[0, u32::MAX]), (Ok(2), false));
+    assert_eq!(run(Start { millisecond: 705, ..farthest }, &[u32::MAX - 1, u32::MAX]), (Err((13, 1)), true));
 }

@@ -47,6 +47,11 @@ fn places() {
 }
 
 #[test]
+fn milliseconds() {
+    assert_eq!(check_file("milliseconds.txt"), counted(&[("moon", 102), ("sums", 50), ("sun", 78)]));
+}
+
+#[test]
 fn leaves() {
     let expected = [
         ("atan", 240),

@@ -103,11 +103,11 @@ unsafe extern "C" {
         has_azimuth: &mut u32,
         shown: &mut Shown,
     ) -> u32;
-    unsafe fn raddlehue_batch(
+    unsafe fn raddlehue_batch_ms(
         start: &Start,
         body: u32,
         point: &Point,
-        offsets_tenths: *const u32,
+        offsets_ms: *const u32,
         offsets_length: u64,
         azimuths_e8: *mut i64,
         azimuths_length: u64,
@@ -188,10 +188,10 @@ unsafe extern "C" {
     ) -> u32;
     pub safe fn raddlehue_day_count(year: i64, month: i64, day: i64, days: &mut i64) -> u32;
     pub safe fn raddlehue_instant(start: &Start, instant: &mut Instant) -> u32;
-    pub safe fn raddlehue_moon_sums(tt_tenths: i64, sums: &mut MoonSums) -> u32;
-    pub safe fn raddlehue_sun_sums(tt_tenths: i64, sums: &mut SunSums) -> u32;
-    pub safe fn raddlehue_nutation(tt_tenths: i64, nutation: &mut Nutation) -> u32;
-    pub safe fn raddlehue_mean_sidereal(ut_tenths: i64, sidereal_e8: &mut i64) -> u32;
+    pub safe fn raddlehue_moon_sums_ms(tt_ms: i64, sums: &mut MoonSums) -> u32;
+    pub safe fn raddlehue_sun_sums_ms(tt_ms: i64, sums: &mut SunSums) -> u32;
+    pub safe fn raddlehue_nutation_ms(tt_ms: i64, nutation: &mut Nutation) -> u32;
+    pub safe fn raddlehue_mean_sidereal_ms(ut_ms: i64, sidereal_e8: &mut i64) -> u32;
     pub safe fn raddlehue_sine(angle_e8: i64) -> i64;
     pub safe fn raddlehue_cosine(angle_e8: i64) -> i64;
     pub safe fn raddlehue_arctangent(y: i64, x: i64) -> i64;
@@ -203,19 +203,19 @@ pub fn batch(
     start: &Start,
     body: u32,
     point: &Point,
-    offsets_tenths: &[u32],
+    offsets_ms: &[u32],
     azimuths_e8: &mut [i64],
     elevations_e8: &mut [i64],
 ) -> (u32, Batch) {
     let mut told = Batch::default();
     // SAFETY: each pointer goes with its own slice's length (an empty slice's is not null, and is not read), and the borrows keep the memories apart.
     let refusal = unsafe {
-        raddlehue_batch(
+        raddlehue_batch_ms(
             start,
             body,
             point,
-            offsets_tenths.as_ptr(),
-            offsets_tenths.len() as u64,
+            offsets_ms.as_ptr(),
+            offsets_ms.len() as u64,
             azimuths_e8.as_mut_ptr(),
             azimuths_e8.len() as u64,
             elevations_e8.as_mut_ptr(),

@@ -38,7 +38,7 @@ fn minute(flag: u32, minute: u32) -> Option<u16> {
 ///
 /// let tromso = Point::east_north(18.9553, 69.6492, 10);
 /// let mut elevations_e8 = [0; DAY_MINUTES];
-/// let summer = day(Date::utc(2024, 6, 20).delta_t_tenths(692), Body::Sun, tromso, &mut elevations_e8)?;
+/// let summer = day(Date::utc(2024, 6, 20).delta_t_ms(69_200), Body::Sun, tromso, &mut elevations_e8)?;
 /// assert_eq!(summer, RiseSet { rise_minute: None, set_minute: None });
 /// assert!(elevations_e8[0] >= RISE_SET_E8, "the Sun does not set");
 /// # Ok::<(), raddlehue::Refusal>(())
@@ -57,7 +57,7 @@ pub fn day(date: Date, body: Body, point: Point, elevations_e8: &mut [i64; DAY_M
 /// use raddlehue::{rise_set, Body, Date, Point};
 ///
 /// let greenwich = Point::east_north(0.0, 51.4769, 46);
-/// let sun = rise_set(Date::utc(2009, 6, 21).delta_t_tenths(659), Body::Sun, greenwich)?;
+/// let sun = rise_set(Date::utc(2009, 6, 21).delta_t_ms(65_900), Body::Sun, greenwich)?;
 /// assert_eq!((sun.rise_minute, sun.set_minute), (Some(3 * 60 + 43), Some(20 * 60 + 21)));
 /// # Ok::<(), raddlehue::Refusal>(())
 /// ```

@@ -33,7 +33,7 @@ pub struct Eclipse {
 ///
 /// // 003, Table 4: 22 July 2009, on the open Pacific
 /// let pacific = Point::east_north(143.3617, 24.6117, 0);
-/// let seen = eclipse(Start::utc(2009, 7, 22, 2, 33, 0).delta_t_tenths(664), pacific)?;
+/// let seen = eclipse(Start::utc(2009, 7, 22, 2, 33, 0).delta_t_ms(66_400), pacific)?;
 /// assert_eq!(seen.share_millionths, 1_000_000);
 /// assert!(seen.moon_radius_e8 - seen.sun_radius_e8 >= seen.separation_e8);
 /// # Ok::<(), raddlehue::Refusal>(())

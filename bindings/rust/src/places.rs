@@ -6,21 +6,21 @@ use crate::{archive, Air, Body, Point, Refusal, Start, DEGREE_E8};
 #[cfg(feature = "alloc")]
 use alloc::{vec, vec::Vec};
 
-/// No direction, where one number has to say so, as in an entry of [`places_into`]'s azimuths: the largest `i64`, which is no azimuth, and which [`middle`](crate::middle) refuses.
+/// No direction, where one number has to say so, as in an entry of [`places_into_ms`]'s azimuths: the largest `i64`, which is no azimuth, and which [`middle`](crate::middle) refuses.
 pub const NO_DIRECTION_E8: i64 = i64::MAX;
 
 /// Azimuth from north over east, and elevation from the horizon upward without refraction.
 ///
-/// A body straight overhead or straight underfoot has no azimuth, which is not the 0 of the north. The Sun over Lahaina on Maui, and a tenth of a second later in the west:
+/// A body straight overhead or straight underfoot has no azimuth, which is not the 0 of the north. The Sun over Lahaina on Maui, and 0.1 s later in the west:
 ///
 /// ```
 /// use raddlehue::{place, Air, Body, Point, Start};
 ///
 /// let lahaina = Point { longitude_e7: -1_566_828_813, latitude_e7: 208_783_487, height_metres: 0 };
-/// let noon = Start::utc(2005, 7, 18, 22, 32, 59).delta_t_tenths(647);
+/// let noon = Start::utc(2005, 7, 18, 22, 32, 59).delta_t_ms(64_700);
 /// let sun = place(noon, Body::Sun, lahaina, Air::None)?;
 /// assert_eq!((sun.azimuth_e8, sun.elevation_e8), (None, 8_999_999_993));
-/// let later = place(noon.fraction_tenths(1), Body::Sun, lahaina, Air::None)?;
+/// let later = place(noon.fraction_ms(100), Body::Sun, lahaina, Air::None)?;
 /// assert_eq!((later.azimuth_e8, later.elevation_e8), (Some(26_995_783_452), 8_999_961_083));
 /// # Ok::<(), raddlehue::Refusal>(())
 /// ```
@@ -36,7 +36,7 @@ fn if_any<T>(has_azimuth: u32, azimuth: T) -> Option<T> {
     (has_azimuth != 0).then_some(azimuth)
 }
 
-/// What an entry of [`places_into`]'s azimuths says: an angle, or, where it is [`NO_DIRECTION_E8`], that there is none.
+/// What an entry of [`places_into_ms`]'s azimuths says: an angle, or, where it is [`NO_DIRECTION_E8`], that there is none.
 ///
 /// ```
 /// use raddlehue::{direction_in, NO_DIRECTION_E8};
@@ -97,7 +97,7 @@ pub struct Shown {
 /// ```
 /// use raddlehue::{place, Air, Body, Point, Start};
 ///
-/// let start = Start::utc(2100, 8, 5, 5, 45, 21).fraction_tenths(9).ut1_tenths(-8).delta_t_tenths(-58_850);
+/// let start = Start::utc(2100, 8, 5, 5, 45, 21).fraction_ms(900).ut1_ms(-800).delta_t_ms(-5_885_000);
 /// let point = Point { longitude_e7: 628_815_586, latitude_e7: 221_655_669, height_metres: 9000 };
 /// let sun = place(start, Body::Sun, point, Air::None)?;
 /// assert_eq!((sun.azimuth_e8, sun.elevation_e8), (Some(9_397_013_277), 5_921_374_473));
@@ -121,7 +121,7 @@ pub fn place(start: Start, body: Body, point: Point, air: Air) -> Result<Place, 
 /// use raddlehue::{shown_place, Air, Body, Point, Refusal, Start};
 ///
 /// let boulder = Point::east_north(-105.1786, 39.742476, 1830);
-/// let asked = |year| shown_place(Start::utc(year, 10, 17, 19, 30, 30).delta_t_tenths(670), Body::Sun, boulder, Air::Standard);
+/// let asked = |year| shown_place(Start::utc(year, 10, 17, 19, 30, 30).delta_t_ms(67_000), Body::Sun, boulder, Air::Standard);
 /// assert_eq!(format!("{:.4}", asked(2003)?.refraction_degrees), "0.0202");
 /// assert_eq!(asked(2101), Err(Refusal::Year));
 /// # Ok::<(), raddlehue::Refusal>(())
@@ -139,33 +139,33 @@ pub fn shown_place(start: Start, body: Body, point: Point, air: Air) -> Result<S
     })
 }
 
-/// Azimuths (north over east) and elevations (upward, no refraction) at offsets in tenths of a second after a UTC start; longitude east positive.
+/// Azimuths (north over east) and elevations (upward, no refraction) at offsets in milliseconds after a UTC start; longitude east positive.
 ///
-/// UT1 minus UTC and delta-T are the start's for every offset. Entry i is the place at offset i; the offsets may stand in any order.
+/// UT1 minus UTC and delta-T are the start's for every offset. Entry i is the place at offset i; the offsets may stand in any order, and reach 49.7 days.
 ///
 /// # Errors
 /// [`Year`](Refusal::Year) to [`Height`](Refusal::Height), 1 to 9, then [`TooLate`](Refusal::TooLate), 13.
 ///
 /// ```
-/// use raddlehue::{places, Body, Point, Start};
+/// use raddlehue::{places_ms, Body, Point, Start};
 ///
-/// let midnight = Start::utc(2024, 6, 20, 0, 0, 0).delta_t_tenths(692);
+/// let midnight = Start::utc(2024, 6, 20, 0, 0, 0).delta_t_ms(69_200);
 /// let tromso = Point::east_north(18.9553, 69.6492, 10);
-/// let hourly: Vec<u32> = (0..24).map(|hour| hour * 36_000).collect();
-/// let sun = places(midnight, Body::Sun, tromso, &hourly)?;
+/// let hourly: Vec<u32> = (0..24).map(|hour| hour * 3_600_000).collect();
+/// let sun = places_ms(midnight, Body::Sun, tromso, &hourly)?;
 /// assert!(sun.iter().all(|place| place.elevation_e8 > 0), "the Sun does not set");
 /// # Ok::<(), raddlehue::Refusal>(())
 /// ```
 #[cfg(feature = "alloc")]
-pub fn places(start: Start, body: Body, point: Point, offsets_tenths: &[u32]) -> Result<Vec<Place>, Refusal> {
-    let mut azimuths = vec![0; offsets_tenths.len()];
-    let mut elevations = vec![0; offsets_tenths.len()];
-    places_into(start, body, point, offsets_tenths, &mut azimuths, &mut elevations)?;
+pub fn places_ms(start: Start, body: Body, point: Point, offsets_ms: &[u32]) -> Result<Vec<Place>, Refusal> {
+    let mut azimuths = vec![0; offsets_ms.len()];
+    let mut elevations = vec![0; offsets_ms.len()];
+    places_into_ms(start, body, point, offsets_ms, &mut azimuths, &mut elevations)?;
     let pairs = azimuths.into_iter().zip(elevations);
     Ok(pairs.map(|(entry_e8, elevation_e8)| Place { azimuth_e8: direction_in(entry_e8), elevation_e8 }).collect())
 }
 
-/// Azimuths (north over east) and elevations (upward, no refraction), both in 10⁻⁸ degree, into two lent buffers, at offsets in tenths of a second after a UTC start.
+/// Azimuths (north over east) and elevations (upward, no refraction), both in 10⁻⁸ degree, into two lent buffers, at offsets in milliseconds after a UTC start.
 ///
 /// The answer is how many entries of each were written, which is how many offsets there are. Where there is no azimuth, [`NO_DIRECTION_E8`] stands in its entry
 /// ([`direction_in`] asks for it). What lies beyond keeps its contents, and a refused batch writes nothing.
@@ -174,24 +174,24 @@ pub fn places(start: Start, body: Body, point: Point, offsets_tenths: &[u32]) ->
 /// [`Year`](Refusal::Year) to [`Height`](Refusal::Height), 1 to 9, then [`ShortBuffer`](Refusal::ShortBuffer), 12, and [`TooLate`](Refusal::TooLate), 13.
 ///
 /// ```
-/// use raddlehue::{places_into, Body, Point, Refusal, Start};
+/// use raddlehue::{places_into_ms, Body, Point, Refusal, Start};
 ///
 /// let eve = Start::utc(2100, 12, 31, 23, 59, 59);
 /// let greenwich = Point::east_north(0.0, 51.4779, 46);
 /// let (mut azimuths, mut elevations) = ([-1; 3], [-1; 3]);
-/// let refused = places_into(eve, Body::Moon, greenwich, &[0, 9, 10], &mut azimuths, &mut elevations);
+/// let refused = places_into_ms(eve, Body::Moon, greenwich, &[0, 999, 1000], &mut azimuths, &mut elevations);
 /// assert_eq!(refused, Err(Refusal::TooLate { index: 2 }));
 /// assert_eq!((azimuths, elevations), ([-1; 3], [-1; 3]));
 /// ```
-pub fn places_into(
+pub fn places_into_ms(
     start: Start,
     body: Body,
     point: Point,
-    offsets_tenths: &[u32],
+    offsets_ms: &[u32],
     azimuths_e8: &mut [i64],
     elevations_e8: &mut [i64],
 ) -> Result<usize, Refusal> {
-    let (refusal, told) = archive::batch(&start, body.code(), &point, offsets_tenths, azimuths_e8, elevations_e8);
+    let (refusal, told) = archive::batch(&start, body.code(), &point, offsets_ms, azimuths_e8, elevations_e8);
     // Neither number is above a slice's length, so that a cast loses nothing.
     match accepted(refusal) {
         Ok(()) => Ok(told.count as usize),

@@ -20,7 +20,7 @@ use crate::{archive, Body, Date, Point, Refusal, DAY_MINUTES};
 /// ```
 /// use raddlehue::{judge, Body, Date, Point, Refusal, DEGREE_E8};
 ///
-/// let date = Date::utc(2003, 10, 17).delta_t_tenths(670);
+/// let date = Date::utc(2003, 10, 17).delta_t_ms(67_000);
 /// let boulder = Point::east_north(-105.1786, 39.742476, 1830);
 /// let verdict = |minutes: &[u32], azimuths_e8: &[i64]| judge(date, Body::Sun, boulder, 5 * DEGREE_E8 as u64, minutes, azimuths_e8);
 /// assert_eq!(verdict(&[0, 1439], &[4_500_000_000, 25_300_000_000]), Err(Refusal::ProposalOut { minute: 0 }));
@@ -55,7 +55,7 @@ pub fn judge(
 /// ```
 /// use raddlehue::{judge, plan, Body, Date, Point, Refusal, DAY_MINUTES, DEGREE_E8};
 ///
-/// let date = Date::utc(2003, 10, 17).delta_t_tenths(670);
+/// let date = Date::utc(2003, 10, 17).delta_t_ms(67_000);
 /// let boulder = Point::east_north(-105.1786, 39.742476, 1830);
 /// let tolerance_e8 = 3 * DEGREE_E8 as u64;
 /// let (mut minutes, mut azimuths_e8) = ([0; DAY_MINUTES], [0; DAY_MINUTES]);

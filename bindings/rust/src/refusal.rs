@@ -25,7 +25,7 @@ pub enum Refusal {
     UnknownAir,
     /// 103: the elevation to refract is not within 9,000,000,000 of 10⁻⁸ degree either way.
     NoElevation,
-    /// 104: the instant of a sum is not within 31,904,733,600 tenths of a second (101.1 years) of 2000-01-01 12:00.
+    /// 104: the instant of a sum is not within 3,190,473,360,000 milliseconds (101.1 years) of 2000-01-01 12:00.
     OutOfReach,
     /// 105: the separation is not 0 to 18,000,000,000 of 10⁻⁸ degree, the Sun's radius not 20,000,000 to 30,000,000, or the Moon's not 0 to 30,000,000.
     NoDisks,
@@ -39,11 +39,11 @@ pub enum Refusal {
     Month,
     /// 3: the day (Gregorian, UTC) is not in that month.
     Day,
-    /// 4: the clock (UTC) is not hour 0 to 23, minute 0 to 59, second 0 to 59, tenth 0 to 9.
+    /// 4: the clock (UTC) is not hour 0 to 23, minute 0 to 59, second 0 to 59, millisecond 0 to 999.
     Clock,
-    /// 5: UT1 minus UTC is not -9 to 9 tenths of a second.
+    /// 5: UT1 minus UTC is not -900 to 900 milliseconds.
     Ut1,
-    /// 6: delta-T (TT minus UT1) is not -80,000 to 80,000 tenths of a second.
+    /// 6: delta-T (TT minus UT1) is not -8,000,000 to 8,000,000 milliseconds.
     DeltaT,
     /// 7: the longitude (east positive) is not within 1,800,000,000 of 10⁻⁷ degree either way.
     Longitude,
@@ -57,7 +57,7 @@ pub enum Refusal {
     Temperature,
     /// 12: a buffer has fewer entries than the list of offsets.
     ShortBuffer,
-    /// 13: a start plus its offset lies after 2100-12-31 23:59:59.9 UTC.
+    /// 13: a start plus its offset lies after 2100-12-31 23:59:59.999 UTC.
     TooLate {
         /// Which offset is the first such, counted from 0.
         index: usize,
@@ -148,7 +148,7 @@ impl Refusal {
             Refusal::UnknownAir => (102, "UNKNOWN_AIR", "the air is none of none, standard and measured"),
             Refusal::NoElevation => (103, "NO_ELEVATION", "the elevation is not within 90 degrees"),
             Refusal::OutOfReach => {
-                (104, "OUT_OF_REACH", "the instant is not within 31,904,733,600 tenths of a second of 2000-01-01 12:00")
+                (104, "OUT_OF_REACH", "the instant is not within 3,190,473,360,000 milliseconds of 2000-01-01 12:00")
             }
             Refusal::NoDisks => (
                 105,
@@ -161,17 +161,17 @@ impl Refusal {
             Refusal::Month => (2, "MONTH", "the month is not 1 to 12"),
             Refusal::Day => (3, "DAY", "that month of the Gregorian calendar has no such day"),
             Refusal::Clock => {
-                (4, "CLOCK", "the time of the day is not hour 0 to 23, minute 0 to 59, second 0 to 59, tenth 0 to 9")
+                (4, "CLOCK", "the time of the day is not hour 0 to 23, minute 0 to 59, second 0 to 59, millisecond 0 to 999")
             }
-            Refusal::Ut1 => (5, "UT1", "UT1 minus UTC is not -9 to 9 tenths of a second"),
-            Refusal::DeltaT => (6, "DELTA_T", "delta-T is not -80,000 to 80,000 tenths of a second"),
+            Refusal::Ut1 => (5, "UT1", "UT1 minus UTC is not -900 to 900 milliseconds"),
+            Refusal::DeltaT => (6, "DELTA_T", "delta-T is not -8,000,000 to 8,000,000 milliseconds"),
             Refusal::Longitude => (7, "LONGITUDE", "the longitude is not within 180 degrees"),
             Refusal::Latitude => (8, "LATITUDE", "the latitude is not within 90 degrees"),
             Refusal::Height => (9, "HEIGHT", "the height is not -500 to 9,000 metres"),
             Refusal::Pressure => (10, "PRESSURE", "the measured pressure is not 0 to 1200 mbar"),
             Refusal::Temperature => (11, "TEMPERATURE", "the measured temperature is not -80 to 80 degrees Celsius"),
             Refusal::ShortBuffer => (12, "SHORT_BUFFER", "a buffer is shorter than the list of offsets"),
-            Refusal::TooLate { .. } => (13, "TOO_LATE", "a start plus offset lies after 2100-12-31 23:59:59.9 UTC"),
+            Refusal::TooLate { .. } => (13, "TOO_LATE", "a start plus offset lies after 2100-12-31 23:59:59.999 UTC"),
             Refusal::NotReduced => (15, "NOT_REDUCED", "an azimuth is not from 0 up to but not 360 degrees"),
             Refusal::Opposite => (14, "OPPOSITE", "two azimuths half a turn apart have no middle"),
             Refusal::StripLength => (

@@ -1,7 +1,7 @@
 //! What is asked: when, of which body, from where and through which air.
 #![forbid(unsafe_code)]
 
-/// A moment in UTC (no zone, Gregorian calendar) to the tenth of a second, with UT1 minus UTC and delta-T (TT minus UT1).
+/// A moment in UTC (no zone, Gregorian calendar) to the millisecond, with UT1 minus UTC and delta-T (TT minus UT1).
 ///
 /// With the feature `std`, `Start::try_from` takes a `SystemTime`.
 #[repr(C)]
@@ -19,58 +19,58 @@ pub struct Start {
     pub minute: i64,
     /// 0 to 59: a leap second is refused.
     pub second: i64,
-    /// Tenths of a second after the whole one, 0 to 9.
-    pub fraction_tenths: i64,
-    /// UT1 minus UTC in tenths of a second, -9 to 9.
-    pub ut1_tenths: i64,
-    /// Delta-T, TT minus UT1, in tenths of a second, -80,000 to 80,000.
-    pub delta_t_tenths: i64,
+    /// Milliseconds after the whole second, 0 to 999.
+    pub fraction_ms: i64,
+    /// UT1 minus UTC in milliseconds, -900 to 900.
+    pub ut1_ms: i64,
+    /// Delta-T, TT minus UT1, in milliseconds, -8,000,000 to 8,000,000.
+    pub delta_t_ms: i64,
 }
 
 impl Start {
     /// A whole second of UTC (no zone, Gregorian calendar), with UT1 minus UTC and delta-T both 0 until they are given.
     ///
-    /// Delta-T is about 69 s in 2020, in which the Moon goes 0.01 degree: give it by [`delta_t_tenths`](Start::delta_t_tenths).
+    /// Delta-T is about 69 s in 2020, in which the Moon goes 0.01 degree: give it by [`delta_t_ms`](Start::delta_t_ms).
     ///
     /// ```
     /// use raddlehue::Start;
     ///
     /// let start = Start::utc(2003, 10, 17, 19, 30, 31);
-    /// assert_eq!((start.year, start.hour, start.delta_t_tenths), (2003, 19, 0));
+    /// assert_eq!((start.year, start.hour, start.delta_t_ms), (2003, 19, 0));
     /// ```
     #[must_use]
     pub const fn utc(year: i64, month: i64, day: i64, hour: i64, minute: i64, second: i64) -> Start {
-        Start { year, month, day, hour, minute, second, fraction_tenths: 0, ut1_tenths: 0, delta_t_tenths: 0 }
+        Start { year, month, day, hour, minute, second, fraction_ms: 0, ut1_ms: 0, delta_t_ms: 0 }
     }
 
-    /// The same, this many tenths of a second (0 to 9) after its whole second of UTC.
+    /// The same, this many milliseconds (0 to 999) after its whole second of UTC.
     ///
     /// ```
-    /// assert_eq!(raddlehue::Start::utc(2003, 10, 17, 19, 30, 30).fraction_tenths(5).fraction_tenths, 5);
+    /// assert_eq!(raddlehue::Start::utc(2003, 10, 17, 19, 30, 30).fraction_ms(500).fraction_ms, 500);
     /// ```
     #[must_use]
-    pub const fn fraction_tenths(self, fraction_tenths: i64) -> Start {
-        Start { fraction_tenths, ..self }
+    pub const fn fraction_ms(self, fraction_ms: i64) -> Start {
+        Start { fraction_ms, ..self }
     }
 
-    /// The same, with UT1 minus UTC (not UTC minus UT1) in tenths of a second, -9 to 9.
+    /// The same, with UT1 minus UTC (not UTC minus UT1) in milliseconds, -900 to 900.
     ///
     /// ```
-    /// assert_eq!(raddlehue::Start::utc(2003, 10, 17, 19, 30, 30).ut1_tenths(-4).ut1_tenths, -4);
+    /// assert_eq!(raddlehue::Start::utc(2003, 10, 17, 19, 30, 30).ut1_ms(-400).ut1_ms, -400);
     /// ```
     #[must_use]
-    pub const fn ut1_tenths(self, ut1_tenths: i64) -> Start {
-        Start { ut1_tenths, ..self }
+    pub const fn ut1_ms(self, ut1_ms: i64) -> Start {
+        Start { ut1_ms, ..self }
     }
 
-    /// The same, with delta-T (TT minus UT1, not UTC) in tenths of a second, -80,000 to 80,000: 67.0 s is 670.
+    /// The same, with delta-T (TT minus UT1, not UTC) in milliseconds, -8,000,000 to 8,000,000: 67 s is 67,000.
     ///
     /// ```
-    /// assert_eq!(raddlehue::Start::utc(2003, 10, 17, 19, 30, 30).delta_t_tenths(670).delta_t_tenths, 670);
+    /// assert_eq!(raddlehue::Start::utc(2003, 10, 17, 19, 30, 30).delta_t_ms(67_000).delta_t_ms, 67_000);
     /// ```
     #[must_use]
-    pub const fn delta_t_tenths(self, delta_t_tenths: i64) -> Start {
-        Start { delta_t_tenths, ..self }
+    pub const fn delta_t_ms(self, delta_t_ms: i64) -> Start {
+        Start { delta_t_ms, ..self }
     }
 }
 
@@ -84,10 +84,10 @@ pub struct Date {
     pub month: i64,
     /// From 1.
     pub day: i64,
-    /// UT1 minus UTC in tenths of a second, -9 to 9.
-    pub ut1_tenths: i64,
-    /// Delta-T, TT minus UT1, in tenths of a second, -80,000 to 80,000.
-    pub delta_t_tenths: i64,
+    /// UT1 minus UTC in milliseconds, -900 to 900.
+    pub ut1_ms: i64,
+    /// Delta-T, TT minus UT1, in milliseconds, -8,000,000 to 8,000,000.
+    pub delta_t_ms: i64,
 }
 
 impl Date {
@@ -97,31 +97,31 @@ impl Date {
     /// use raddlehue::Date;
     ///
     /// let date = Date::utc(2009, 6, 21);
-    /// assert_eq!((date.year, date.day, date.delta_t_tenths), (2009, 21, 0));
+    /// assert_eq!((date.year, date.day, date.delta_t_ms), (2009, 21, 0));
     /// ```
     #[must_use]
     pub const fn utc(year: i64, month: i64, day: i64) -> Date {
-        Date { year, month, day, ut1_tenths: 0, delta_t_tenths: 0 }
+        Date { year, month, day, ut1_ms: 0, delta_t_ms: 0 }
     }
 
-    /// The same, with UT1 minus UTC (not UTC minus UT1) in tenths of a second, -9 to 9.
+    /// The same, with UT1 minus UTC (not UTC minus UT1) in milliseconds, -900 to 900.
     ///
     /// ```
-    /// assert_eq!(raddlehue::Date::utc(2009, 6, 21).ut1_tenths(-4).ut1_tenths, -4);
+    /// assert_eq!(raddlehue::Date::utc(2009, 6, 21).ut1_ms(-400).ut1_ms, -400);
     /// ```
     #[must_use]
-    pub const fn ut1_tenths(self, ut1_tenths: i64) -> Date {
-        Date { ut1_tenths, ..self }
+    pub const fn ut1_ms(self, ut1_ms: i64) -> Date {
+        Date { ut1_ms, ..self }
     }
 
-    /// The same, with delta-T (TT minus UT1, not UTC) in tenths of a second, -80,000 to 80,000: 65.9 s is 659.
+    /// The same, with delta-T (TT minus UT1, not UTC) in milliseconds, -8,000,000 to 8,000,000: 65.9 s is 65,900.
     ///
     /// ```
-    /// assert_eq!(raddlehue::Date::utc(2009, 6, 21).delta_t_tenths(659).delta_t_tenths, 659);
+    /// assert_eq!(raddlehue::Date::utc(2009, 6, 21).delta_t_ms(65_900).delta_t_ms, 65_900);
     /// ```
     #[must_use]
-    pub const fn delta_t_tenths(self, delta_t_tenths: i64) -> Date {
-        Date { delta_t_tenths, ..self }
+    pub const fn delta_t_ms(self, delta_t_ms: i64) -> Date {
+        Date { delta_t_ms, ..self }
     }
 }
 

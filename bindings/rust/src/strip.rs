@@ -121,7 +121,7 @@ impl StripHeader {
 /// use raddlehue::{day_azimuths, strip_steps, Body, Date, Point, Refusal};
 ///
 /// let boulder = Point::east_north(-105.1786, 39.742476, 1830);
-/// let date = Date::utc(2003, 10, 17).delta_t_tenths(670);
+/// let date = Date::utc(2003, 10, 17).delta_t_ms(67_000);
 /// let mut azimuths_e7 = [0; strip_steps(10)];
 /// assert_eq!(day_azimuths(date, Body::Sun, boulder, 10, &mut azimuths_e7), Ok(144));
 /// assert_eq!(azimuths_e7[117], 1_941_824_835); // 19:30
@@ -148,7 +148,7 @@ pub fn day_azimuths(date: Date, body: Body, point: Point, step_minutes: i64, azi
 /// ```
 /// use raddlehue::*;
 ///
-/// let date = Date::utc(2003, 10, 17).delta_t_tenths(670);
+/// let date = Date::utc(2003, 10, 17).delta_t_ms(67_000);
 /// let boulder = Point::east_north(-105.1786, 39.742476, 1830);
 /// let mut azimuths_e7 = [0; strip_steps(10)];
 /// day_azimuths(date, Body::Sun, boulder, 10, &mut azimuths_e7)?;

@@ -5,7 +5,7 @@ use raddlehue::*;
 use std::time::{Duration, SystemTime, UNIX_EPOCH};
 
 // 004, Appendix A.5, whose height is 1830.14 m.
-const START: Start = Start::utc(2003, 10, 17, 19, 30, 30).delta_t_tenths(670);
+const START: Start = Start::utc(2003, 10, 17, 19, 30, 30).delta_t_ms(67_000);
 const POINT: Point = Point { longitude_e7: -1_051_786_000, latitude_e7: 397_424_760, height_metres: 1830 };
 const AIR: Air = measured(820.0, 11.0);
 
@@ -36,9 +36,9 @@ fn the_moon_is_no_sun() {
     assert_ne!(sun, moon);
 }
 
-// The Sun straight over Lahaina on Maui: a tenth of a second before it is in the east, and a tenth after in the west.
-const OVERHEAD: Start = Start::utc(2005, 7, 18, 22, 32, 59).delta_t_tenths(647);
-const TENTH_BEFORE: Start = Start { second: 58, fraction_tenths: 9, ..OVERHEAD };
+// The Sun straight over Lahaina on Maui: 0.1 s before it is in the east, and 0.1 s after in the west.
+const OVERHEAD: Start = Start::utc(2005, 7, 18, 22, 32, 59).delta_t_ms(64_700);
+const JUST_BEFORE: Start = Start { second: 58, fraction_ms: 900, ..OVERHEAD };
 const LAHAINA: Point = Point { longitude_e7: -1_566_828_813, latitude_e7: 208_783_487, height_metres: 0 };
 
 #[test]
@@ -54,7 +54,7 @@ fn straight_overhead_there_is_no_azimuth() {
 // tests/vectors/leaves.txt
 #[test]
 fn straight_underfoot_there_is_no_azimuth() {
-    let start = Start::utc(2038, 9, 14, 15, 57, 15).fraction_tenths(9).ut1_tenths(3).delta_t_tenths(10_224);
+    let start = Start::utc(2038, 9, 14, 15, 57, 15).fraction_ms(900).ut1_ms(300).delta_t_ms(1_022_400);
     let atlantic = Point { longitude_e7: -464_318_022, latitude_e7: 25_923_395, height_metres: 54 };
     let moon = place(start, Body::Moon, atlantic, Air::None);
     assert_eq!(moon, Ok(Place { azimuth_e8: None, elevation_e8: -8_999_999_993 }));
@@ -63,7 +63,7 @@ fn straight_underfoot_there_is_no_azimuth() {
 #[test]
 fn the_mark_stands_in_that_entry_alone() {
     let (mut azimuths, mut elevations) = ([-7; 4], [-8; 3]);
-    assert_eq!(places_into(TENTH_BEFORE, Body::Sun, LAHAINA, &[2, 1, 0], &mut azimuths, &mut elevations), Ok(3));
+    assert_eq!(places_into_ms(JUST_BEFORE, Body::Sun, LAHAINA, &[200, 100, 0], &mut azimuths, &mut elevations), Ok(3));
     assert_eq!(azimuths, [26_995_783_452, NO_DIRECTION_E8, 8_999_156_196, -7]);
     assert_eq!(elevations, [8_999_961_083, 8_999_999_993, 8_999_961_083]);
     assert_eq!(middle(azimuths[0], azimuths[1]), Err(Refusal::NotReduced));
@@ -119,9 +119,9 @@ fn each_refusal_of_a_request() {
         (Start { month: 13, ..START }, POINT, AIR, Refusal::Month),
         (Start { day: 32, ..START }, POINT, AIR, Refusal::Day),
         (Start { second: 60, ..START }, POINT, AIR, Refusal::Clock),
-        (START.fraction_tenths(10), POINT, AIR, Refusal::Clock),
-        (START.ut1_tenths(10), POINT, AIR, Refusal::Ut1),
-        (START.delta_t_tenths(-80_001), POINT, AIR, Refusal::DeltaT),
+        (START.fraction_ms(1000), POINT, AIR, Refusal::Clock),
+        (START.ut1_ms(901), POINT, AIR, Refusal::Ut1),
+        (START.delta_t_ms(-8_000_001), POINT, AIR, Refusal::DeltaT),
         (START, Point { longitude_e7: 1_800_000_001, ..POINT }, AIR, Refusal::Longitude),
         (START, Point { latitude_e7: 900_000_001, ..POINT }, AIR, Refusal::Latitude),
         (START, Point { height_metres: 9_001, ..POINT }, AIR, Refusal::Height),
@@ -138,7 +138,7 @@ fn each_refusal_of_a_request() {
             assert_eq!(place(start, body, point, air), Err(refusal));
             assert_eq!(shown_place(start, body, point, air), Err(refusal));
             if refusal.number() < Refusal::Pressure.number() {
-                assert_eq!(places(start, body, point, &[]), Err(refusal));
+                assert_eq!(places_ms(start, body, point, &[]), Err(refusal));
             }
             if refusal.number() < Refusal::Longitude.number() {
                 assert_eq!(instant(start), Err(refusal));
@@ -150,9 +150,9 @@ fn each_refusal_of_a_request() {
 #[test]
 fn the_first_refusal_is_given() {
     let worst = Start::utc(i64::MIN, i64::MAX, i64::MIN, i64::MAX, i64::MIN, i64::MAX)
-        .fraction_tenths(i64::MIN)
-        .ut1_tenths(i64::MAX)
-        .delta_t_tenths(i64::MIN);
+        .fraction_ms(i64::MIN)
+        .ut1_ms(i64::MAX)
+        .delta_t_ms(i64::MIN);
     let nowhere = Point { longitude_e7: i64::MIN, latitude_e7: i64::MAX, height_metres: i64::MIN };
     let air = measured(f64::NAN, f64::NAN);
     assert_eq!(place(worst, Body::Sun, nowhere, air), Err(Refusal::Year));
@@ -165,7 +165,7 @@ fn the_first_refusal_is_given() {
 #[test]
 fn refusals_are_errors() {
     let late: Box<dyn std::error::Error> = Refusal::TooLate { index: 144 }.into();
-    assert_eq!(late.to_string(), "a start plus offset lies after 2100-12-31 23:59:59.9 UTC (index 144)");
+    assert_eq!(late.to_string(), "a start plus offset lies after 2100-12-31 23:59:59.999 UTC (index 144)");
     let out = Refusal::ProposalOut { minute: 1350 };
     assert_eq!(out.to_string(), "a minute of the proposal is out of tolerance (minute 1350)");
     assert_eq!((out.number(), out.sentence()), (31, "a minute of the proposal is out of tolerance"));
@@ -178,12 +178,12 @@ fn refusals_are_errors() {
 
 #[test]
 fn entries_are_places() {
-    let offsets = [0, 36_000, 5];
-    let found = places(START, Body::Moon, POINT, &offsets).unwrap();
-    let starts = [START, Start { hour: 20, ..START }, START.fraction_tenths(5)];
+    let offsets = [0, 3_600_000, 505];
+    let found = places_ms(START, Body::Moon, POINT, &offsets).unwrap();
+    let starts = [START, Start { hour: 20, ..START }, START.fraction_ms(505)];
     assert_eq!(found, starts.map(|start| place(start, Body::Moon, POINT, Air::None).unwrap()));
     let (mut azimuths, mut elevations) = ([-7; 4], [-8; 5]);
-    assert_eq!(places_into(START, Body::Moon, POINT, &offsets, &mut azimuths, &mut elevations), Ok(3));
+    assert_eq!(places_into_ms(START, Body::Moon, POINT, &offsets, &mut azimuths, &mut elevations), Ok(3));
     assert_eq!(azimuths.map(direction_in), [found[0].azimuth_e8, found[1].azimuth_e8, found[2].azimuth_e8, Some(-7)]);
     assert_eq!(elevations, [found[0].elevation_e8, found[1].elevation_e8, found[2].elevation_e8, -8, -8]);
 }
@@ -192,7 +192,7 @@ fn entries_are_places() {
 fn short_buffers_keep_their_contents() {
     for (a, e) in [(2, 3), (3, 2), (0, 0)] {
         let (mut azimuths, mut elevations) = (vec![-7; a], vec![-8; e]);
-        let answer = places_into(START, Body::Sun, POINT, &[0, 1, 2], &mut azimuths, &mut elevations);
+        let answer = places_into_ms(START, Body::Sun, POINT, &[0, 1, 2], &mut azimuths, &mut elevations);
         assert_eq!(answer, Err(Refusal::ShortBuffer));
         assert_eq!((azimuths, elevations), (vec![-7; a], vec![-8; e]));
     }
@@ -201,23 +201,23 @@ fn short_buffers_keep_their_contents() {
 #[test]
 fn late_offsets_are_named() {
     let eve = Start::utc(2100, 12, 31, 23, 59, 59);
-    assert_eq!(places(eve, Body::Sun, POINT, &[9]).map(|places| places.len()), Ok(1));
-    assert_eq!(places(eve, Body::Sun, POINT, &[0, 9, 10, u32::MAX]), Err(Refusal::TooLate { index: 2 }));
+    assert_eq!(places_ms(eve, Body::Sun, POINT, &[999]).map(|places| places.len()), Ok(1));
+    assert_eq!(places_ms(eve, Body::Sun, POINT, &[0, 999, 1000, u32::MAX]), Err(Refusal::TooLate { index: 2 }));
     let (mut azimuths, mut elevations) = ([-7; 2], [-8; 2]);
-    let answer = places_into(eve, Body::Sun, POINT, &[0, 10], &mut azimuths, &mut elevations);
+    let answer = places_into_ms(eve, Body::Sun, POINT, &[0, 1000], &mut azimuths, &mut elevations);
     assert_eq!(answer, Err(Refusal::TooLate { index: 1 }));
     assert_eq!((azimuths, elevations), ([-7; 2], [-8; 2]));
 }
 
 #[test]
 fn no_offsets_no_places() {
-    assert_eq!(places(START, Body::Sun, POINT, &[]), Ok(vec![]));
-    assert_eq!(places_into(START, Body::Sun, POINT, &[], &mut [], &mut []), Ok(0));
+    assert_eq!(places_ms(START, Body::Sun, POINT, &[]), Ok(vec![]));
+    assert_eq!(places_into_ms(START, Body::Sun, POINT, &[], &mut [], &mut []), Ok(0));
 }
 
 // ---- days
 
-const DATE: Date = Date::utc(2009, 6, 21).delta_t_tenths(659);
+const DATE: Date = Date::utc(2009, 6, 21).delta_t_ms(65_900);
 const GREENWICH: Point = Point { longitude_e7: 0, latitude_e7: 514_769_000, height_metres: 46 };
 const TROMSO: Point = Point { longitude_e7: 189_553_000, latitude_e7: 696_492_000, height_metres: 10 };
 
@@ -228,12 +228,12 @@ fn minutes(rise_minute: Option<u16>, set_minute: Option<u16>) -> Result<RiseSet,
 // As DE431 has them.
 #[test]
 fn a_curve_is_a_batch_of_minutes() {
-    let midnight = Start::utc(2009, 6, 21, 0, 0, 0).delta_t_tenths(659);
-    let offsets: Vec<u32> = (0..1440).map(|minute| 600 * minute).collect();
+    let midnight = Start::utc(2009, 6, 21, 0, 0, 0).delta_t_ms(65_900);
+    let offsets: Vec<u32> = (0..1440).map(|minute| 60_000 * minute).collect();
     for (body, answer) in [(Body::Sun, minutes(Some(223), Some(1221))), (Body::Moon, minutes(Some(108), Some(1172)))] {
         let mut elevations = [-7; DAY_MINUTES];
         assert_eq!(day(DATE, body, GREENWICH, &mut elevations), answer);
-        let places = places(midnight, body, GREENWICH, &offsets).unwrap();
+        let places = places_ms(midnight, body, GREENWICH, &offsets).unwrap();
         assert!(places.iter().map(|place| place.elevation_e8).eq(elevations));
         assert_eq!(rise_set(DATE, body, GREENWICH), answer);
     }
@@ -241,7 +241,7 @@ fn a_curve_is_a_batch_of_minutes() {
 
 #[test]
 fn a_day_may_lack_either_or_both() {
-    let on = |month, day| Date::utc(2026, month, day).delta_t_tenths(691);
+    let on = |month, day| Date::utc(2026, month, day).delta_t_ms(69_100);
     assert_eq!(rise_set(on(11, 3), Body::Moon, GREENWICH), minutes(None, Some(858)));
     assert_eq!(rise_set(on(11, 18), Body::Moon, GREENWICH), minutes(Some(806), None));
     for (month, stays_up) in [(6, true), (12, false)] {
@@ -254,7 +254,7 @@ fn a_day_may_lack_either_or_both() {
 #[test]
 fn minute_0_looks_back_to_the_day_before() {
     let at = Point { longitude_e7: 902_000_000, latitude_e7: 0, height_metres: 0 };
-    let on = |day| Date::utc(1900, 1, day).delta_t_tenths(-20);
+    let on = |day| Date::utc(1900, 1, day).delta_t_ms(-2000);
     assert_eq!(rise_set(on(2), Body::Sun, at), minutes(Some(0), Some(727)));
     assert_eq!(rise_set(on(1), Body::Sun, at), minutes(None, Some(727)), "there is no day before");
     assert!(rise_set(Date::utc(2100, 12, 31), Body::Moon, at).is_ok());
@@ -265,9 +265,9 @@ fn a_refused_day_keeps_the_curve() {
     let requests = [
         (Date { year: 1899, month: 13, ..DATE }, GREENWICH, Refusal::Year),
         (Date { month: 0, day: 0, ..DATE }, GREENWICH, Refusal::Month),
-        (Date { day: 31, ..DATE.ut1_tenths(10) }, GREENWICH, Refusal::Day),
-        (DATE.ut1_tenths(-10).delta_t_tenths(80_001), GREENWICH, Refusal::Ut1),
-        (DATE.delta_t_tenths(80_001), Point { longitude_e7: i64::MIN, ..GREENWICH }, Refusal::DeltaT),
+        (Date { day: 31, ..DATE.ut1_ms(901) }, GREENWICH, Refusal::Day),
+        (DATE.ut1_ms(-901).delta_t_ms(8_000_001), GREENWICH, Refusal::Ut1),
+        (DATE.delta_t_ms(8_000_001), Point { longitude_e7: i64::MIN, ..GREENWICH }, Refusal::DeltaT),
         (DATE, Point { longitude_e7: -1_800_000_001, latitude_e7: i64::MAX, ..GREENWICH }, Refusal::Longitude),
         (DATE, Point { latitude_e7: -900_000_001, height_metres: i64::MIN, ..GREENWICH }, Refusal::Latitude),
         (DATE, Point { height_metres: -501, ..GREENWICH }, Refusal::Height),
@@ -285,7 +285,7 @@ fn a_refused_day_keeps_the_curve() {
 // ---- strips
 
 const STEPS: [i64; 4] = [1, 2, 5, 10];
-const STRIP_DATE: Date = Date::utc(2003, 10, 17).delta_t_tenths(670);
+const STRIP_DATE: Date = Date::utc(2003, 10, 17).delta_t_ms(67_000);
 const HEADER: StripHeader = StripHeader::of(STRIP_DATE, Body::Sun, POINT, 10, Air::Standard);
 
 // Azimuths that no two neighbours share, the least, the greatest and an absent one among them.
@@ -326,7 +326,7 @@ fn azimuths_of_a_day_are_places() {
 
 #[test]
 fn a_minute_straight_overhead_or_underfoot_is_absent() {
-    let date = |year, month, day| Date::utc(year, month, day).delta_t_tenths(688);
+    let date = |year, month, day| Date::utc(year, month, day).delta_t_ms(68_800);
     let oahu = Point { longitude_e7: -1_581_709_847, latitude_e7: 215_390_192, height_metres: 0 };
     let pacific = Point { longitude_e7: -1_396_639_251, latitude_e7: 215_638_686, height_metres: 0 };
     for (date, body, point, minute) in
@@ -347,9 +347,9 @@ fn refused_azimuths_of_a_day_write_nothing() {
     let requests = [
         (Date { year: 1899, month: 13, ..STRIP_DATE }, far, 3, Refusal::Year),
         (Date { month: 13, day: 0, ..STRIP_DATE }, far, 3, Refusal::Month),
-        (Date { day: 32, ..STRIP_DATE.ut1_tenths(10) }, far, 3, Refusal::Day),
-        (STRIP_DATE.ut1_tenths(10).delta_t_tenths(80_001), far, 3, Refusal::Ut1),
-        (STRIP_DATE.delta_t_tenths(-80_001), far, 3, Refusal::DeltaT),
+        (Date { day: 32, ..STRIP_DATE.ut1_ms(901) }, far, 3, Refusal::Day),
+        (STRIP_DATE.ut1_ms(901).delta_t_ms(8_000_001), far, 3, Refusal::Ut1),
+        (STRIP_DATE.delta_t_ms(-8_000_001), far, 3, Refusal::DeltaT),
         (STRIP_DATE, far, 3, Refusal::Longitude),
         (STRIP_DATE, Point { longitude_e7: -1_800_000_000, ..far }, 3, Refusal::Latitude),
         (STRIP_DATE, Point { height_metres: 9_001, ..POINT }, 3, Refusal::Height),
@@ -635,7 +635,7 @@ fn a_lookup_judges_both_strips() {
 const HALF_TURN: i64 = 180 * DEGREE_E8;
 const DUNEDIN: Point = Point { longitude_e7: 1_705_000_000, latitude_e7: -455_000_000, height_metres: 0 };
 /// Over which the Sun stands straight at 22:30 UTC.
-const OAHU_DATE: Date = Date::utc(2027, 5, 28).delta_t_tenths(688);
+const OAHU_DATE: Date = Date::utc(2027, 5, 28).delta_t_ms(68_800);
 const OAHU: Point = Point { longitude_e7: -1_581_709_847, latitude_e7: 215_390_192, height_metres: 0 };
 
 struct Proposal {
@@ -681,10 +681,10 @@ fn way(from_e8: i64, to_e8: i64) -> i64 {
 }
 
 fn azimuths_of_day(date: Date, body: Body, point: Point) -> Vec<Option<i64>> {
-    let Date { year, month, day, ut1_tenths, delta_t_tenths } = date;
-    let midnight = Start::utc(year, month, day, 0, 0, 0).ut1_tenths(ut1_tenths).delta_t_tenths(delta_t_tenths);
-    let offsets: Vec<u32> = (0..1440).map(|minute| 600 * minute).collect();
-    places(midnight, body, point, &offsets).unwrap().into_iter().map(|place| place.azimuth_e8).collect()
+    let Date { year, month, day, ut1_ms, delta_t_ms } = date;
+    let midnight = Start::utc(year, month, day, 0, 0, 0).ut1_ms(ut1_ms).delta_t_ms(delta_t_ms);
+    let offsets: Vec<u32> = (0..1440).map(|minute| 60_000 * minute).collect();
+    places_ms(midnight, body, point, &offsets).unwrap().into_iter().map(|place| place.azimuth_e8).collect()
 }
 
 // The azimuth goes forward, backward, once round in a day, and both ways.
@@ -692,7 +692,7 @@ fn some_days() -> [(Date, Body, Point); 4] {
     let tropics = Point { longitude_e7: 0, latitude_e7: 100_000_000, height_metres: 0 };
     [
         (STRIP_DATE, Body::Sun, POINT),
-        (Date::utc(2026, 11, 15).ut1_tenths(-3).delta_t_tenths(691), Body::Sun, DUNEDIN),
+        (Date::utc(2026, 11, 15).ut1_ms(-300).delta_t_ms(69_100), Body::Sun, DUNEDIN),
         (DATE, Body::Sun, TROMSO),
         (DATE, Body::Moon, tropics),
     ]
@@ -832,9 +832,9 @@ fn a_refused_plan_keeps_its_buffers() {
     let requests = [
         (Date { year: 2101, month: 0, ..STRIP_DATE }, POINT, Refusal::Year),
         (Date { month: 13, day: 0, ..STRIP_DATE }, POINT, Refusal::Month),
-        (Date { day: 32, ..STRIP_DATE.ut1_tenths(10) }, POINT, Refusal::Day),
-        (STRIP_DATE.ut1_tenths(10).delta_t_tenths(-80_001), POINT, Refusal::Ut1),
-        (STRIP_DATE.delta_t_tenths(-80_001), Point { longitude_e7: i64::MAX, ..POINT }, Refusal::DeltaT),
+        (Date { day: 32, ..STRIP_DATE.ut1_ms(901) }, POINT, Refusal::Day),
+        (STRIP_DATE.ut1_ms(901).delta_t_ms(-8_000_001), POINT, Refusal::Ut1),
+        (STRIP_DATE.delta_t_ms(-8_000_001), Point { longitude_e7: i64::MAX, ..POINT }, Refusal::DeltaT),
         (STRIP_DATE, Point { longitude_e7: 1_800_000_001, latitude_e7: i64::MIN, ..POINT }, Refusal::Longitude),
         (STRIP_DATE, Point { latitude_e7: 900_000_001, height_metres: i64::MAX, ..POINT }, Refusal::Latitude),
         (STRIP_DATE, Point { height_metres: 9_001, ..POINT }, Refusal::Height),
@@ -855,8 +855,8 @@ fn a_refused_plan_keeps_its_buffers() {
 // 003, Table 4, its first and its last: the whole Sun, and a ring.
 #[test]
 fn eclipses_of_the_report() {
-    let whole = eclipse(Start::utc(2009, 7, 22, 2, 33, 0).delta_t_tenths(664), Point::east_north(143.3617, 24.6117, 0));
-    let ring = eclipse(Start::utc(1981, 2, 4, 21, 57, 36).delta_t_tenths(515), Point::east_north(-145.9033, -45.8883, 0));
+    let whole = eclipse(Start::utc(2009, 7, 22, 2, 33, 0).delta_t_ms(66_400), Point::east_north(143.3617, 24.6117, 0));
+    let ring = eclipse(Start::utc(1981, 2, 4, 21, 57, 36).delta_t_ms(51_500), Point::east_north(-145.9033, -45.8883, 0));
     for (found, [separation_e8, sun_radius_e8, moon_radius_e8, share_millionths]) in
         [(whole, [45_193, 26_236_064, 28_346_192, 1_000_000]), (ring, [76_975, 27_034_383, 26_874_029, 988_172])]
     {
@@ -949,9 +949,11 @@ fn days() {
 #[test]
 fn instants() {
     let noon = Start::utc(2000, 1, 1, 12, 0, 0);
-    assert_eq!(instant(noon), Ok(Instant { ut_tenths: 0, tt_tenths: 0 }));
-    let later = Start::utc(2000, 1, 2, 12, 0, 0).fraction_tenths(7).ut1_tenths(-9).delta_t_tenths(638);
-    assert_eq!(instant(later), Ok(Instant { ut_tenths: 863_998, tt_tenths: 864_636 }));
+    assert_eq!(instant(noon), Ok(Instant { ut_ms: 0, tt_ms: 0 }));
+    let later = Start::utc(2000, 1, 2, 12, 0, 0).fraction_ms(700).ut1_ms(-900).delta_t_ms(63_800);
+    assert_eq!(instant(later), Ok(Instant { ut_ms: 86_399_800, tt_ms: 86_463_600 }));
+    let last = Start::utc(2100, 12, 31, 23, 59, 59).fraction_ms(999).ut1_ms(900).delta_t_ms(8_000_000);
+    assert_eq!(instant(last), Ok(Instant { ut_ms: 3_187_252_800_899, tt_ms: 3_187_260_800_899 }));
 }
 
 #[test]
@@ -959,16 +961,16 @@ fn sums() {
     let moon = MoonSums { longitude_e8: 22_331_871_102, latitude_e8: 517_128_006, distance_metres: 402_444_812 };
     let sun = SunSums { longitude_radians_e10: 17_519_226_963, latitude_radians_e10: -33_050, radius_au_e10: 9_833_275_804 };
     let nods = Nutation { longitude_e8: -386_755, obliquity_e8: -160_387, true_obliquity_e8: 2_343_768_724 };
-    assert_eq!((moon_sums(0), sun_sums(0), nutation(0)), (Ok(moon), Ok(sun), Ok(nods)));
-    assert_eq!(mean_sidereal(-864_000), Ok(27_947_497_100));
-    for edge in [-31_904_733_600, 31_904_733_600] {
-        assert!(moon_sums(edge).is_ok() && sun_sums(edge).is_ok());
-        assert!(nutation(edge).is_ok() && mean_sidereal(edge).is_ok());
+    assert_eq!((moon_sums_ms(0), sun_sums_ms(0), nutation_ms(0)), (Ok(moon), Ok(sun), Ok(nods)));
+    assert_eq!(mean_sidereal_ms(-86_400_000), Ok(27_947_497_100));
+    for edge in [-3_190_473_360_000, 3_190_473_360_000] {
+        assert!(moon_sums_ms(edge).is_ok() && sun_sums_ms(edge).is_ok());
+        assert!(nutation_ms(edge).is_ok() && mean_sidereal_ms(edge).is_ok());
     }
     let refusal = Refusal::OutOfReach;
-    for beyond in [i64::MIN, -31_904_733_601, 31_904_733_601, i64::MAX] {
-        assert_eq!((moon_sums(beyond), sun_sums(beyond)), (Err(refusal), Err(refusal)));
-        assert_eq!((nutation(beyond), mean_sidereal(beyond)), (Err(refusal), Err(refusal)));
+    for beyond in [i64::MIN, -3_190_473_360_001, 3_190_473_360_001, i64::MAX] {
+        assert_eq!((moon_sums_ms(beyond), sun_sums_ms(beyond)), (Err(refusal), Err(refusal)));
+        assert_eq!((nutation_ms(beyond), mean_sidereal_ms(beyond)), (Err(refusal), Err(refusal)));
     }
 }
 
@@ -994,13 +996,13 @@ fn every_day_of_the_clock() {
 }
 
 #[test]
-fn the_clock_is_cut_to_the_tenth_before() {
+fn the_clock_is_cut_to_the_millisecond_before() {
     for (days, after, start) in [
-        (0, 99_999_999, Start::utc(2000, 1, 1, 0, 0, 0)),
+        (0, 999_999, Start::utc(2000, 1, 1, 0, 0, 0)),
         (-10_958, 1, Start::utc(1969, 12, 31, 0, 0, 0)),
-        (-36_524, 86_399_999_999_999, Start::utc(1900, 1, 1, 23, 59, 59).fraction_tenths(9)),
-        (36_889, 86_399_999_999_999, Start::utc(2100, 12, 31, 23, 59, 59).fraction_tenths(9)),
-        (8_000, 45_296_700_000_000, Start::utc(2021, 11, 26, 12, 34, 56).fraction_tenths(7)),
+        (-36_524, 86_399_999_999_999, Start::utc(1900, 1, 1, 23, 59, 59).fraction_ms(999)),
+        (36_889, 86_399_999_999_999, Start::utc(2100, 12, 31, 23, 59, 59).fraction_ms(999)),
+        (8_000, 45_296_789_000_000, Start::utc(2021, 11, 26, 12, 34, 56).fraction_ms(789)),
     ] {
         assert_eq!(Start::try_from(midnight(days) + Duration::from_nanos(after)), Ok(start));
     }
@@ -1028,7 +1030,7 @@ fn constants_are_the_headers() {
     };
     assert_eq!(defined("VERSION"), format!("\"{VERSION}\""));
     for (name, number) in [
-        ("SECOND", SECOND),
+        ("SECOND_MS", SECOND_MS),
         ("DEGREE_E7", DEGREE_E7),
         ("DEGREE_E8", DEGREE_E8),
         ("NO_DIRECTION_E8", NO_DIRECTION_E8),

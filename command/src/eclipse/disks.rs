@@ -3,7 +3,7 @@
 use super::report::{Row, Sight};
 use crate::format::short_percent;
 use crate::sky::{Eclipse, Place, DEGREE_E8};
-use crate::svg::{degrees, tenths, text, Spot, MARGIN, WIDTH};
+use crate::svg::{degrees, one_decimal, text, Spot, MARGIN, WIDTH};
 
 /// The windows' upper edge, the width of each, and how much of the sheet a degree of sky takes there.
 pub const TOP: f64 = 545.0;
@@ -40,7 +40,7 @@ pub fn drawn(shown: &[(&Row, Sight)]) -> String {
         lines.resize(2, String::new());
         lines.push(sight.moment.hour_minute_and_second());
         lines.push(format!("{} %", short_percent(sight.disks.share_millionths)));
-        lines.push(format!("{}°", tenths(sight.sun.elevation_e8)));
+        lines.push(format!("{}°", one_decimal(sight.sun.elevation_e8)));
         for (line, words) in lines.iter().enumerate().filter(|(_, words)| !words.is_empty()) {
             svg += &text("middle", (x, TOP + WINDOW + TO_LINE + LINE * line as f64), words);
         }

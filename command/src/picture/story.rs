@@ -5,7 +5,7 @@ use crate::format::{why_no_azimuth, NONE};
 use crate::observer::{scales_words, short_range_words, Observer};
 use crate::rise_set::{passed_degrees, Day};
 use crate::sky::Body;
-use crate::svg::{degrees, tenths, Heading};
+use crate::svg::{degrees, one_decimal, Heading};
 use crate::time::Moment;
 
 pub struct Story {
@@ -67,7 +67,7 @@ fn highest(track: &Track) -> Highest {
         Some(azimuth_e8) => (format!("{:.0}°", degrees(azimuth_e8).round() % 360.0), String::new()),
         None => (NONE.to_string(), format!(": {}", why_no_azimuth(track.body, place))),
     };
-    Highest { words: format!("highest {}° at {}, azimuth {azimuth}", tenths(place.elevation_e8), clock(minute)), why }
+    Highest { words: format!("highest {}° at {}, azimuth {azimuth}", one_decimal(place.elevation_e8), clock(minute)), why }
 }
 
 pub fn class_of(body: Body) -> &'static str {

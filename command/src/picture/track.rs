@@ -4,14 +4,16 @@ use super::dome::{length, onward, short_way, Dot, LOWEST};
 use crate::failure::Failure;
 use crate::sky::{self, Body, Place, View};
 use crate::svg::degrees;
+use crate::time::{MS_OF_DAY, MS_OF_MINUTE};
 
 /// How far apart two points of a line may lie on the sheet; a body near the zenith goes further in a minute.
 const LONGEST_STEP: f64 = 8.0;
+/// The points that are put between lie at whole steps of 0.1 s: in less no body goes far enough to be seen.
+const FINEST_MS: u32 = 100;
 
 const MINUTES: u32 = 24 * 60;
-const TENTHS_OF_MINUTE: u32 = 600;
-/// The day's last tenth of a second, since the last day of 2100 has no midnight after it.
-const LAST_TENTH: u32 = 863_999;
+/// The day's last moment, since the last day of 2100 has no midnight after it.
+const LAST_MS: u32 = MS_OF_DAY as u32 - 1;
 
 pub struct Track {
     pub body: Body,
@@ -31,7 +33,7 @@ fn dot(place: Place, centre: f64) -> Dot {
 
 impl Track {
     pub fn of(view: View, body: Body, centre: f64) -> Result<Track, Failure> {
-        let offsets: Vec<u32> = (0..=MINUTES).map(|minute| (minute * TENTHS_OF_MINUTE).min(LAST_TENTH)).collect();
+        let offsets: Vec<u32> = (0..=MINUTES).map(|minute| (minute * MS_OF_MINUTE as u32).min(LAST_MS)).collect();
         let minutes = sky::places(view, body, &offsets)?;
         let hours = minutes.iter().step_by(60).map(|&place| dot(place, centre)).collect();
         let coarse = offsets.into_iter().zip(minutes.iter().map(|&place| dot(place, centre))).collect();
@@ -47,13 +49,14 @@ impl Track {
 
 // ---- from places to lines
 
-/// Points between those that lie too far apart, down to the tenth of a second: so the line near the zenith is the body's own way and no short cut.
+/// Points between those that lie too far apart: so the line near the zenith is the body's own way and no short cut.
 fn refined(mut dots: Vec<(u32, Dot)>, ask: impl Fn(&[u32]) -> Result<Vec<Dot>, Failure>) -> Result<Vec<(u32, Dot)>, Failure> {
     loop {
-        let wide = |pair: &[(u32, Dot)]| pair[1].0 - pair[0].0 > 1 && length(pair[0].1, pair[1].1) > LONGEST_STEP;
+        // In less than two steps there may be no whole one, since the day's last moment is none itself.
+        let wide = |pair: &[(u32, Dot)]| pair[1].0 - pair[0].0 >= 2 * FINEST_MS && length(pair[0].1, pair[1].1) > LONGEST_STEP;
         let seen = |pair: &[(u32, Dot)]| pair[0].1.up.max(pair[1].1.up) > LOWEST;
         let gaps = dots.windows(2).filter(|pair| wide(pair) && seen(pair));
-        let between: Vec<u32> = gaps.map(|pair| (pair[0].0 + pair[1].0) / 2).collect();
+        let between: Vec<u32> = gaps.map(|pair| (pair[0].0 + pair[1].0) / 2 / FINEST_MS * FINEST_MS).collect();
         if between.is_empty() {
             return Ok(dots);
         }
@@ -149,13 +152,30 @@ mod tests {
     #[test]
     fn no_step_near_the_zenith_is_long() {
         let at = |offset: u32| {
-            let way = (f64::from(offset) - 6_000.0) / 2_400.0;
+            let way = (f64::from(offset) - 600_000.0) / 240_000.0;
             dot((way / 1.0).atan().to_degrees() - 90.0, 90.0 - way.hypot(1.0))
         };
-        let coarse: Vec<(u32, Dot)> = (0..=20).map(|step| (step * 600, at(step * 600))).collect();
+        let coarse: Vec<(u32, Dot)> = (0..=20).map(|step| (step * 60_000, at(step * 60_000))).collect();
         let ask = |offsets: &[u32]| Ok(offsets.iter().map(|&offset| at(offset)).collect());
         let fine = refined(coarse, ask).unwrap();
         assert!(fine.windows(2).all(|pair| length(pair[0].1, pair[1].1) <= LONGEST_STEP && pair[0].0 < pair[1].0));
         assert!(fine.iter().any(|(_, dot)| dot.up > 88.9));
+    }
+
+    // A body that is elsewhere from some moment on, which no point between makes any nearer.
+    #[test]
+    fn the_finest_step_ends_the_search() {
+        for (first, last, jump, before, after) in [
+            (0, 60_000, 30_050, 30_000, 30_100),
+            (86_340_000, LAST_MS, 86_370_000, 86_369_900, 86_370_000),
+            (86_340_000, LAST_MS, LAST_MS, 86_399_800, LAST_MS),
+        ] {
+            let at = |offset: u32| dot(if offset < jump { -60.0 } else { 60.0 }, 45.0);
+            let ask = |offsets: &[u32]| Ok(offsets.iter().map(|&offset| at(offset)).collect());
+            let fine = refined(vec![(first, at(first)), (last, at(last))], ask).unwrap();
+            let found = fine.windows(2).find(|pair| pair[0].1 != pair[1].1).map(|pair| (pair[0].0, pair[1].0));
+            assert_eq!(found, Some((before, after)));
+            assert!(fine.iter().all(|(offset, _)| offset % FINEST_MS == 0 || *offset == LAST_MS));
+        }
     }
 }

@@ -46,7 +46,7 @@ impl Story {
                 description,
             },
             azimuth: format!("azimuth of the {body}, from north over east"),
-            tolerance: format!("tolerance {}° either way", decimal::short(question.tolerance_e8, ANGLE_DECIMALS)),
+            tolerance: format!("tolerance {}° either way", decimal::short(question.tolerance_e8, ANGLE_DECIMALS, 0)),
             points: counted(plan),
             notes,
         }

@@ -21,7 +21,7 @@ use Rattle.number_rules.proofs.CalendarLaws.{day-after-last-is}
 use Rattle.numbers.proofs.Machine.{not-holds}
 use Rattle.number_rules.specs.Calendar.{day-count, day-number, days-from-2000, days-to-month, days-to-year, leap, month-length, year-length}
 use Rattle.request.proofs.RequestLaws.{accepted}
-use Rattle.batch.specs.Batch.{BatchAnswer, batch-answer, filled, first-late, is-late, last-moment, later}
+use Rattle.batch.specs.Batch.{BatchAnswer, EndsWith2100, batch-answer, filled, first-late, is-late, last-moment, later}
 use Rattle.calendar.specs.Refusal.{OneAnswer, first}
 use Rattle.calendar.proofs.RefusalLaws.{never-late, never-none, number-tells, one-answer}
 use Rattle.request.specs.Request.{date, elapsed, instant, start-refusals, utc}
@@ -36,6 +36,9 @@ use Rattle.sum_rules.specs.Instant.{Accepted, day, furthest}
 pub last-is : last-moment ≡ pos (36_890 * day - 1)
 unfolding last-moment utc elapsed day-count days-from-2000 day-number days-to-year days-to-month month-length year-length leap
 last-is = refl
+
+pub ends-with-2100 : EndsWith2100
+ends-with-2100 = ap (λ (z : ℤ). z +ℤ pos 1) last-is ∙ ap (λ (z : ℤ). pos day *ℤ z) (sym day-after-last-is)
 
 -- ---- the search
 module _ (start : ℤ) (offsets : List ℕ) where

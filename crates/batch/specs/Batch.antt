@@ -3,9 +3,9 @@ use mathlib.Core.Bool.{Bool, _&&_, cond}
 use mathlib.Core.List.{List, [], _++_, _∷_, map}
 use mathlib.Core.Logic.{_↔_}
 use mathlib.Core.Path.{_≡_}
-use Prim.Native.Nat.{_-_, _<_, suc, ℕ}
+use Prim.Native.Nat.{_<_, suc, ℕ}
 use lib.Dec.{eqb, leb}
-use lib.IntN.{_+ℤ_, pos, ℤ}
+use lib.IntN.{_*ℤ_, _+ℤ_, pos, ℤ}
 use lib.ListN.{drop, getD, length}
 use lib.Signed.{ltZ}
 use Rattle.arctangent.specs.Direction.{azimuth-numbers, mark}
@@ -13,14 +13,14 @@ use Rattle.arctangent.specs.declared.direction.Direction.the-variants.{None}
 use Rattle.sky_vectors.specs.Place.{place-at, place-from}
 use Rattle.sky_vectors.specs.SkyRange.{Reachable}
 use Rattle.calendar.specs.Refusal.{_unless_, first, number}
-use Rattle.request.specs.Request.{moved, point-refusals, start-refusals, utc}
+use Rattle.request.specs.Request.{fraction-limit, moved, point-refusals, start-refusals, utc}
 use Rattle.batch.specs.declared.samples.Batch.{Batch}
 use Rattle.batch.specs.declared.samples.Batch.the-variants.{Done, Late, Refused}
 use Rattle.sky_vectors.specs.declared.geocentric.Body.{Body}
 use Rattle.sky_vectors.specs.declared.station.Point.{Point}
 use Rattle.sky_vectors.specs.declared.station.Runner.{Runner}
 use Rattle.request.specs.declared.start.Start.{Start}
-use Rattle.sum_rules.specs.Instant.{second}
+use Rattle.sum_rules.specs.Instant.{day, day-after-last}
 use Rattle.sum_rules.specs.declared.instant.Instant.{Instant}
 
 -- an answer in 01's numbers: the refusal, 0 where there is none; the index, 0 but for 13; the count, 0 where refused
@@ -34,7 +34,7 @@ batch-answer (Done n) = record { refusal = 0; index = 0; count = n }
 batch-answer (Refused refusal) = record { refusal = number refusal; index = 0; count = 0 }
 batch-answer (Late i) = record { refusal = 13; index = i; count = 0 }
 
--- 2100-12-31 23:59:59.9 UTC
+-- 2100-12-31 23:59:59.999 UTC
 unfoldable pub last-moment : ℤ
 last-moment =
     utc (record {
@@ -44,10 +44,14 @@ last-moment =
       hour = pos 23;
       minute = pos 59;
       second = pos 59;
-      fraction = pos (second - 1);
+      fraction = pos fraction-limit;
       ut1 = pos 0;
       «delta_t» = pos 0;
     })
+
+-- THE CLAIM: a unit of time later 2101 begins, so that no moment of 2100 is refused
+abbrev pub EndsWith2100 : Type 0
+EndsWith2100 = last-moment +ℤ pos 1 ≡ pos day *ℤ day-after-last
 
 unfoldable pub is-late : ℤ → ℕ → Bool
 is-late start offset = ltZ last-moment (start +ℤ pos offset)

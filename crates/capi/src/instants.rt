@@ -1,4 +1,4 @@
-// UT and TT of a start, and the sums at one instant: any instant may be asked for, and one out of reach is refused.
+// UT and TT of a start, and the sums at one instant, all in milliseconds from noon of 2000-01-01: any instant may be asked for, and one out of reach is refused.
 use boundary::codes::number_in;
 use boundary::given::start_of;
 use boundary::lent::put_pair;
@@ -38,7 +38,7 @@ pub extern "C" fn raddlehue_instant(start: &[i64; 9], instant: &mut [i64; 2]) ->
 
 // Before nutation: longitude and latitude in 10⁻⁸ degree, and metres from the Earth's centre.
 #[no_mangle]
-pub extern "C" fn raddlehue_moon_sums(tt: i64, sums: &mut [i64; 3]) -> u32
+pub extern "C" fn raddlehue_moon_sums_ms(tt: i64, sums: &mut [i64; 3]) -> u32
     ensures { λ r. ⌜ r ≡ reach-refusal tt ⌝ }
     ensures { λ _. ⌜ now (sums .exit) ≡ at-instant tt (moon-values tt) (now (sums .entry)) ⌝ }
 {
@@ -53,7 +53,7 @@ pub extern "C" fn raddlehue_moon_sums(tt: i64, sums: &mut [i64; 3]) -> u32
 
 // The Earth's L, B and R, in 10⁻¹⁰ radian or AU, before any turn is taken off.
 #[no_mangle]
-pub extern "C" fn raddlehue_sun_sums(tt: i64, sums: &mut [i64; 3]) -> u32
+pub extern "C" fn raddlehue_sun_sums_ms(tt: i64, sums: &mut [i64; 3]) -> u32
     ensures { λ r. ⌜ r ≡ reach-refusal tt ⌝ }
     ensures { λ _. ⌜ now (sums .exit) ≡ at-instant tt (sun-values tt) (now (sums .entry)) ⌝ }
 {
@@ -68,7 +68,7 @@ pub extern "C" fn raddlehue_sun_sums(tt: i64, sums: &mut [i64; 3]) -> u32
 
 // Δψ, Δε and the true obliquity, in 10⁻⁸ degree.
 #[no_mangle]
-pub extern "C" fn raddlehue_nutation(tt: i64, nutation: &mut [i64; 3]) -> u32
+pub extern "C" fn raddlehue_nutation_ms(tt: i64, nutation: &mut [i64; 3]) -> u32
     ensures { λ r. ⌜ r ≡ reach-refusal tt ⌝ }
     ensures { λ _. ⌜ now (nutation .exit) ≡ at-instant tt (nutation-values tt) (now (nutation .entry)) ⌝ }
 {
@@ -85,7 +85,7 @@ pub extern "C" fn raddlehue_nutation(tt: i64, nutation: &mut [i64; 3]) -> u32
 
 // In 10⁻⁸ degree.
 #[no_mangle]
-pub extern "C" fn raddlehue_mean_sidereal(ut: i64, sidereal: &mut i64) -> u32
+pub extern "C" fn raddlehue_mean_sidereal_ms(ut: i64, sidereal: &mut i64) -> u32
     ensures { λ r. ⌜ r ≡ reach-refusal ut ⌝ }
     ensures { λ _. ⌜ now (sidereal .exit) ≡ written-one (reach-refusal ut) (pos (mean ut)) (now (sidereal .entry)) ⌝ }
 {

@@ -1,4 +1,4 @@
-// A batch of places into two buffers that the caller lends.
+// A batch of places into two buffers that the caller lends, at offsets in milliseconds.
 use batch::samples::Batch;
 use batch::samples::places_at;
 use boundary::codes::body_of;
@@ -12,7 +12,7 @@ ghost use Rattle.capi.specs.Answers.{azimuths-left, coded-batch, elevati
 
 // The index of the first bad offset (13) and the count are told; any other refusal writes nothing.
 #[no_mangle]
-pub extern "C" fn raddlehue_batch(
+pub extern "C" fn raddlehue_batch_ms(
     start: &[i64; 9],
     body: u32,
     point: &[i64; 3],

@@ -5,7 +5,6 @@ use eclipse::answer::EclipseAnswer;
 use eclipse::answer::solar_eclipse;
 use request::start::Start;
 use sky_vectors::station::Point;
-use sum_rules::instant::SECOND;
 
 // "within the stated uncertainty of ±0.003° in the azimuth angle" (003, section 5.4.4).
 const STATED: i64 = 300_000;
@@ -17,7 +16,7 @@ fn is_eclipse(start: Start, point: Point) -> bool {
     }
 }
 
-// UT, and delta-T in tenths of a second.
+// UT, and delta-T in milliseconds.
 fn start_at(
     year: i64,
     month: i64,
@@ -25,7 +24,7 @@ fn start_at(
     hour: i64,
     minute: i64,
     second: i64,
-    tenths: u32,
+    delta_t: i64,
 ) -> Start {
     Start {
         year,
@@ -36,7 +35,7 @@ fn start_at(
         second,
         fraction: 0,
         ut1: 0,
-        delta_t: (tenths as u64 * SECOND / 10) as i64,
+        delta_t,
     }
 }
 
@@ -52,19 +51,19 @@ fn row(name: &[u8], start: Start, longitude: i64, latitude: i64) {
 
 pub fn table_4() {
     write(b"003 Table 4:");
-    let start = start_at(2009, 7, 22, 2, 33, 0, 664);
+    let start = start_at(2009, 7, 22, 2, 33, 0, 66_400);
     row(b"2009", start, 1_433_617_000, 246_117_000);
-    let start = start_at(2008, 8, 1, 9, 47, 18, 658);
+    let start = start_at(2008, 8, 1, 9, 47, 18, 65_800);
     row(b"2008", start, 347_417_000, 811_133_000);
-    let start = start_at(2006, 3, 29, 10, 33, 18, 649);
+    let start = start_at(2006, 3, 29, 10, 33, 18, 64_900);
     row(b"2006", start, 228_867_000, 296_200_000);
-    let start = start_at(2005, 4, 8, 20, 15, 36, 648);
+    let start = start_at(2005, 4, 8, 20, 15, 36, 64_800);
     row(b"2005", start, -1_234_817_000, -157_883_000);
-    let start = start_at(2002, 12, 4, 7, 38, 42, 644);
+    let start = start_at(2002, 12, 4, 7, 38, 42, 64_400);
     row(b"2002", start, 628_383_000, -405_283_000);
-    let start = start_at(2001, 6, 21, 11, 57, 48, 642);
+    let start = start_at(2001, 6, 21, 11, 57, 48, 64_200);
     row(b"2001", start, 9_867_000, -115_950_000);
-    let start = start_at(1981, 2, 4, 21, 57, 36, 515);
+    let start = start_at(1981, 2, 4, 21, 57, 36, 51_500);
     row(b"1981", start, -1_459_033_000, -458_883_000);
     write(b"\n");
 }

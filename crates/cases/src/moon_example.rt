@@ -15,12 +15,12 @@ use sky::answer::ShownAnswer;
 use sky::answer::shown_place;
 use sky_vectors::geocentric::Body;
 use sky_vectors::station::Point;
-use sum_rules::instant::SECOND;
 ghost use mathlib.Core.Path.{_≡_};
 ghost use Rattle.calendar.specs.Refusal.{first};
 ghost use Rattle.request.specs.Request.{start-refusals, point-refusals};
 
-const DELTA: i64 = (664 * SECOND / 10) as i64;
+// Delta-T, in milliseconds.
+const DELTA: i64 = 66_400;
 
 fn start() -> Start
     ensures { λ r. ⌜ first (start-refusals r) ≡ 0 ⌝ }

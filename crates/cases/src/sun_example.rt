@@ -18,14 +18,14 @@ use sky_vectors::geocentric::Body;
 use sky_vectors::geocentric::Geocentric;
 use sky_vectors::orientation::Orientation;
 use sky_vectors::station::Point;
-use sum_rules::instant::SECOND;
 use sun_sums::sun::longitude_degrees;
 use sun_sums::sun::sun_at;
 ghost use mathlib.Core.Path.{_≡_};
 ghost use Rattle.calendar.specs.Refusal.{first};
 ghost use Rattle.request.specs.Request.{start-refusals, point-refusals};
 
-const DELTA: i64 = (67 * SECOND) as i64;
+// Delta-T, in milliseconds.
+const DELTA: i64 = 67_000;
 
 // 12:30:30 of a zone seven hours behind UT.
 fn start() -> Start

@@ -29,7 +29,7 @@ last-minute = minutes - 1
 abbrev pub minute : ℕ
 minute = 60 * second
 
--- minute m of the day d days from 2000-01-01, with the date's UT1 minus UTC and delta-T: 01's instant at hh:mm:00.0 (`Claims`)
+-- minute m of the day d days from 2000-01-01, with the date's UT1 minus UTC and delta-T: 01's instant at hh:mm:00 (`Claims`)
 unfoldable pub minute-of : Date → ℤ → ℕ → Instant
 minute-of date d m =
     let ut = universal-time d (pos (m * minute)) (date .ut1) in

@@ -9,7 +9,7 @@ use Rattle.sky_vectors.specs.declared.station.Point.{Point}
 use Rattle.sum_rules.specs.Table.{column}
 use Rattle.day.specs.declared.date.Date.{Date}
 
--- 01's start at hh:mm:00.0 of the date, with its UT1 minus UTC and delta-T
+-- 01's start at hh:mm:00 of the date, with its UT1 minus UTC and delta-T
 abbrev pub clock : Date → ℕ → ℕ → Start
 clock date hour minute =
     record {

@@ -12,7 +12,7 @@ ghost use mathlib.Core.Path.{_≡_};
 ghost use Rattle.calendar.specs.Refusal.{first, verdict-number};
 ghost use Rattle.day.specs.Date.{clock, days, day-refusals};
 
-// A UTC date in the Gregorian calendar, with UT1 minus UTC and delta-T for all of its minutes, in units of time (SECOND to a second).
+// A UTC date in the Gregorian calendar, with UT1 minus UTC and delta-T for all of its minutes, in milliseconds (SECOND to a second).
 pub struct Date {
     pub year: i64,
     pub month: i64,

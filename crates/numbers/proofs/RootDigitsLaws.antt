@@ -55,7 +55,7 @@ module _ (before : SoFar) (next : ℕ) where
     pub ten-too-large : next < 100 → rest before next < taking (twentyfold before) 10
     ten-too-large h = omega (arith, next-above square (digits-of before) (before .root) (after .root-so-far))
 
-    -- before the last pair of 64 bits the root is below a tenth of 2³²
+    -- before the last pair of 64 bits ten times the root is below 2³²
     pub root-small : 100 * digits-of before + next < 2 ^ 64 → 10 * before .root < 2 ^ 32
     root-small h = omega (arith, under (digits-of before) (before .root) 429496729 (after .root-so-far .not-above) (omega arith))
 

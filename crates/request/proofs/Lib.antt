@@ -1,1 +1,2 @@
 pub mod RequestLaws
+pub mod Limits

@@ -2,7 +2,7 @@
 use mathlib.Core.Bool.{Bool, _&&_, false, true}
 use mathlib.Core.List.{List, [], _++_, _∷_}
 use mathlib.Core.Path.{_∙_, _≡_, ap, refl, subst⁻¹, sym}
-use Prim.Native.Nat.{_-_, _≤_, ℕ}
+use Prim.Native.Nat.{_≤_, ℕ}
 use native.Mathlib.Nat.{le-refl}
 use native.Mathlib.Omega.{arith}
 use lib.Dec.{T, lit≤}
@@ -18,7 +18,7 @@ use Rattle.number_rules.proofs.CalendarLaws.{accepted-days, day-after-last-is, 
 use Rattle.calendar.proofs.RefusalLaws.{alone, first-append, none, none-append, passes}
 use Rattle.calendar.specs.Refusal.{_else_, _unless_, first}
 use Rattle.numbers.specs.Whole.{between}
-use Rattle.request.specs.Request.{date, delta-limit, elapsed, instant, is-clock, point-refusals, start-refusals, ut1-limit}
+use Rattle.request.specs.Request.{date, delta-limit, elapsed, fraction-limit, instant, is-clock, point-refusals, start-refusals, ut1-limit}
 use Rattle.sky_vectors.specs.SkyRange.{OnEarth, Reachable, highest-height, latitude-limit, longitude-limit, lowest-height}
 use Rattle.sky_vectors.specs.declared.station.Point.{Point}
 use Rattle.request.specs.declared.start.Start.{Start}
@@ -49,7 +49,7 @@ pub record Clock (s : Start) : Type 0 where
   pub hour : between (pos 0) (s .hour) (pos 23) ≡ true
   pub minute : between (pos 0) (s .minute) (pos 59) ≡ true
   pub second : between (pos 0) (s .second) (pos 59) ≡ true
-  pub fraction : between (pos 0) (s .fraction) (pos (Unit.second - 1)) ≡ true
+  pub fraction : between (pos 0) (s .fraction) (pos fraction-limit) ≡ true
 
 both : (a b : Bool) → a && b ≡ true → (a ≡ true) × (b ≡ true)
 both true b e = (refl, e)
@@ -61,7 +61,7 @@ clock s e =
     let h = between (pos 0) (s .hour) (pos 23) in
     let m = between (pos 0) (s .minute) (pos 59) in
     let t = between (pos 0) (s .second) (pos 59) in
-    let last = both (h && m && t) (between (pos 0) (s .fraction) (pos (Unit.second - 1))) e in
+    let last = both (h && m && t) (between (pos 0) (s .fraction) (pos fraction-limit)) e in
     let third = both (h && m) t (last .0) in
     let two = both h m (third .0) in
     record { hour = two .0; minute = two .1; second = third .1; fraction = last .1 }
@@ -72,7 +72,7 @@ elapsed-in-day s c =
     let h = between-le (pos 0) (s .hour) (pos 23) (c .hour) in
     let m = between-le (pos 0) (s .minute) (pos 59) (c .minute) in
     let t = between-le (pos 0) (s .second) (pos 59) (c .second) in
-    let f = between-le (pos 0) (s .fraction) (pos (Unit.second - 1)) (c .fraction) in
+    let f = between-le (pos 0) (s .fraction) (pos fraction-limit) (c .fraction) in
     let h₀ = to-le (# 0) ⟨ s .hour ⟩ (h .0) in
     let h₁ = to-le ⟨ s .hour ⟩ (# 23) (h .1) in
     let m₀ = to-le (# 0) ⟨ s .minute ⟩ (m .0) in
@@ -80,7 +80,7 @@ elapsed-in-day s c =
     let t₀ = to-le (# 0) ⟨ s .second ⟩ (t .0) in
     let t₁ = to-le ⟨ s .second ⟩ (# 59) (t .1) in
     let f₀ = to-le (# 0) ⟨ s .fraction ⟩ (f .0) in
-    let f₁ = to-le ⟨ s .fraction ⟩ (# (Unit.second - 1)) (f .1) in
+    let f₁ = to-le ⟨ s .fraction ⟩ (# fraction-limit) (f .1) in
     let is = ((⟨ s .hour ⟩ ⊠ # 60 ⊞ ⟨ s .minute ⟩) ⊠ # 60 ⊞ ⟨ s .second ⟩) ⊠ # Unit.second ⊞ ⟨ s .fraction ⟩ in
     (by-le (# 0) is (omega arith), by-lt is (# day) (omega arith))
 

@@ -1,6 +1,7 @@
 -- A request and its numbered refusals (01, the section of that name): 1 to 9, and the instant of a start.
 use mathlib.Core.Bool.{Bool, _&&_}
 use mathlib.Core.List.{List, [], _∷_, _++_}
+use mathlib.Core.Path.{_≡_}
 use Prim.Native.Nat.{_*_, _-_, _/_, ℕ}
 use lib.IntN.{_*ℤ_, _+ℤ_, pos, ℤ}
 use Rattle.number_rules.specs.Calendar.{DayAnswer, day-count}
@@ -21,22 +22,32 @@ date s = day-count (s .year) (s .month) (s .day)
 abbrev pub date-refusals : DayAnswer → List ℕ
 date-refusals date = date .refusal ∷ []
 
--- hour 0-23, minute 0-59, second 0-59, tenth 0-9
+-- the last millisecond of a second
+abbrev pub fraction-limit : ℕ
+fraction-limit = second - 1
+
+-- hour 0-23, minute 0-59, second 0-59, millisecond 0-999
 unfoldable pub is-clock : Start → Bool
 is-clock s =
     between (pos 0) (s .hour) (pos 23) && between (pos 0) (s .minute) (pos 59) && between (pos 0) (s .second) (pos 59)
-    && between (pos 0) (s .fraction) (pos (second - 1))
+    && between (pos 0) (s .fraction) (pos fraction-limit)
 
 -- 4
 abbrev pub clock-refusals : Start → List ℕ
 clock-refusals s = 4 unless is-clock s ∷ []
 
--- UT1 minus UTC, -9 to 9 tenths; delta-T, -80,000 to 80,000 tenths
+-- UT1 minus UTC, -900 to 900 milliseconds; delta-T, -8,000,000 to 8,000,000
 abbrev pub ut1-limit : ℕ
 ut1-limit = 9 * second / 10
 
 abbrev pub delta-limit : ℕ
 delta-limit = 8_000 * second
+
+-- THE CLAIM, in 02's own numbers (Item 8), which follow from the unit of time
+pub record LimitsInMilliseconds : Type 0 where
+  pub fraction : fraction-limit ≡ 999
+  pub ut1 : ut1-limit ≡ 900
+  pub delta : delta-limit ≡ 8_000_000
 
 -- 5 and 6, of UT1 minus UTC and delta-T
 abbrev pub scale-refusals : ℤ → ℤ → List ℕ
@@ -75,7 +86,7 @@ instant s =
 abbrev pub moved : Instant → ℤ → Instant
 moved start units = record { ut = start .ut +ℤ units; tt = start .tt +ℤ units }
 
--- a start from its nine numbers: year month day hour minute second tenth, UT1 minus UTC, delta-T
+-- a start from its nine numbers: year month day hour minute second millisecond, UT1 minus UTC, delta-T
 unfoldable pub start-from : List ℤ → Start
 start-from numbers =
     record {

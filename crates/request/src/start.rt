@@ -17,7 +17,7 @@ ghost use Rattle.calendar.specs.Refusal.{OneAnswer, first, verdict-number};
 ghost use Rattle.sky_vectors.specs.SkyRange.{Reachable};
 ghost use Rattle.request.specs.Request.{date, is-clock, date-refusals, clock-refusals, scale-refusals, start-refusals, elapsed, utc, instant, moved};
 
-// UTC in the Gregorian calendar, UT1 minus UTC, and delta-T. The last three count units of time (SECOND to a second).
+// UTC in the Gregorian calendar, UT1 minus UTC, and delta-T. The last three count milliseconds (SECOND to a second).
 pub struct Start {
     pub year: i64,
     pub month: i64,

@@ -1,4 +1,4 @@
--- What `rise_and_set` promises beside its equations. The minutes of a day are 01's instants: its own at hh:mm:00.0, and that before 0 at 23:59:00.0 of the day before.
+-- What `rise_and_set` promises beside its equations. The minutes of a day are 01's instants: its own at hh:mm:00, and that before 0 at 23:59:00 of the day before.
 use mathlib.Core.Path.{sym}
 use Rattle.day.proofs.DateLaws.{elapsed-is}
 use Rattle.day.specs.Curve.{last-minute, minute-of}

@@ -14,7 +14,7 @@ use Rattle.rise_set.specs.declared.crossing.Event.the-variants.{Rise, Se
 
 -- ---- the minutes are 01's instants
 
--- minute m is hh:mm:00.0 of the date
+-- minute m is hh:mm:00 of the date
 abbrev pub MinutesAreClocks : Date → Type 0
 MinutesAreClocks date = (m : ℕ) → minute-of date (days date) m ≡ instant (clock date (m / 60) (m % 60))
 

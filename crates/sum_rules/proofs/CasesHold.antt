@@ -21,9 +21,10 @@ unfolding ⌊_÷_⌋ _modulo_ reduced sine cosine sine-at negated-from-half fold
     E E2 weight longitude latitude metres longitude-distance-terms latitude-terms Δψ Δε mean-obliquity nutation-terms mean
     row-angle row-value down series L0 L1 L2 L3 L4 L5 B0 B1 R0 R1 R2 R3 R4
 cases-hold =
+    more refl (more refl (more refl (more refl (
     more refl (more refl (more refl (
     more refl (more refl (more refl (more refl (
     more refl (more refl (more refl (more refl (
     more refl (more refl (more refl (more refl (
     more refl (more refl (more refl (more refl (
-    more refl (more refl (more refl (more refl none))))))))))))))))))))))
+    more refl (more refl (more refl (more refl none))))))))))))))))))))))))))

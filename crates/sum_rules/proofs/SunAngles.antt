@@ -56,12 +56,12 @@ ten-centuries : nat 10 *q inv (millennium - 1) ≡ inv (century - 1)
 unfolding whole inv _*q_
 ten-centuries = Quot·sound refl
 
-abbrev pub tenth-reach : ℚ
-tenth-reach = reach over 10
+abbrev pub millennia-reach : ℚ
+millennia-reach = reach over 10
 
 -- ---- a row's sizes and errors: radians, how many turns are taken off, the angle's error in units, the cosine's
 abbrev most-radians : ℕ → ℕ → ℚ
-most-radians b c = nat 0 +q nat 1 +q (nat b +q nat c *q tenth-reach)
+most-radians b c = nat 0 +q nat 1 +q (nat b +q nat c *q millennia-reach)
 
 abbrev most-turns : ℕ → ℕ → ℚ
 most-turns b c = nat 1 +q most-radians b c over 628_318_531
@@ -83,14 +83,14 @@ module _ (n : ℤ) (bound : Within (centuries n) reach) where
   abbrev τ : ℚ
   τ = millennia n
 
-  pub tenth : centuries n over 10 ≡ τ
-  tenth =
+  pub in-millennia : centuries n over 10 ≡ τ
+  in-millennia =
       ap (λ z. whole n *q z over 10) (sym ten-centuries)
       ∙ linq (x0 :* (x1 :* x2) :* x3) (x0 :* x2) (x0 :* x2) (x1 :* x3) k1
       (whole n ∷ nat 10 ∷ inv (millennium - 1) ∷ inv 9 ∷ []) tt (inv-mul 9)
 
-  pub τ-within : Within τ tenth-reach
-  τ-within = subst (λ z. Within z tenth-reach) tenth (within-mul bound (within-self (nn-inv 9)))
+  pub τ-within : Within τ millennia-reach
+  τ-within = subst (λ z. Within z millennia-reach) in-millennia (within-mul bound (within-self (nn-inv 9)))
 
   module _ (b c : ℕ) where
     -- B + C τ by the rule, its whole turns and what they leave

@@ -23,7 +23,7 @@ use Rattle.sum_rules.specs.SunTerms.{B-groups, B0, B1, L-groups, L0, L1,
 use Rattle.sum_rules.proofs.AnglesNear.{cosine-wave, wave-small, widest}
 use Rattle.sum_rules.proofs.FloorsNear.{floored-product, floored-scaled, near-add, near-over, near-small, same-near}
 use Rattle.sum_rules.proofs.PowersNear.{million, reach, u-near}
-use Rattle.sum_rules.proofs.SunAngles.{angle-error, cosine-error, ray-cosine-near, tenth, tenth-reach, τ-within}
+use Rattle.sum_rules.proofs.SunAngles.{angle-error, cosine-error, ray-cosine-near, in-millennia, millennia-reach, τ-within}
 use Rattle.sum_rules.proofs.WeightedSum.{all, most-wave, total-near, total-within}
 use Rattle.sum_rules.specs.Sun as Sun
 
@@ -48,12 +48,12 @@ group-size rows = nat 100 *q totalq (λ row. nat (row-A row) *q most-wave) rows
 -- of the groups from one on
 unfoldable size : List (List (List ℕ)) → ℚ
 size [] = nat 0
-size (rows ∷ above) = group-size rows +q size above *q tenth-reach
+size (rows ∷ above) = group-size rows +q size above *q millennia-reach
 
 -- a group, and into it the groups above, times what is near τ
 abbrev next-error : List (List ℕ) → ℚ → ℚ → ℚ → ℚ
 next-error rows above-error above-size τ-error =
-    group-error rows +q ((above-error +q above-size) *q τ-error +q tenth-reach *q above-error +q nat 1)
+    group-error rows +q ((above-error +q above-size) *q τ-error +q millennia-reach *q above-error +q nat 1)
 
 unfoldable down-error : List (List (List ℕ)) → ℚ
 down-error [] = nat 0
@@ -76,9 +76,9 @@ hundred-rows : nat 10_000_000_000 over 100_000_000 ≡ nat 100
 unfolding whole inv _*q_
 hundred-rows = Quot·sound refl
 
-million-tenth : million over 10_000_000 ≡ inv 9
+million-over-ten-million : million over 10_000_000 ≡ inv 9
 unfolding whole inv _*q_
-million-tenth = Quot·sound refl
+million-over-ten-million = Quot·sound refl
 
 -- THE BOUNDS, computed from the tables
 L-fits : T (fits L-groups L-bound)
@@ -130,8 +130,8 @@ module _ (n : ℤ) (bound : Within (centuries n) reach) where
   u-near-τ : Within (whole (u n) over 10_000_000 -q τ) u-error
   u-near-τ =
       near-over (u n) 9_999_999 (million *q centuries n) τ
-      (linq (x0 :* x1 :* x2) (x1 :* x3) x1 (x0 :* x2) x3 (million ∷ centuries n ∷ inv 9_999_999 ∷ inv 9 ∷ []) tt million-tenth
-      ∙ tenth n bound)
+      (linq (x0 :* x1 :* x2) (x1 :* x3) x1 (x0 :* x2) x3 (million ∷ centuries n ∷ inv 9_999_999 ∷ inv 9 ∷ []) tt million-over-ten-million
+      ∙ in-millennia n bound)
       (u-near n bound)
 
   -- into a group the groups above it, times b / (d + 1), which is near τ

@@ -40,10 +40,10 @@ Holds (x ≈ k e-30) = Nearest x k
 
 -- two instants, TT: n, T and τ
 abbrev pub n₁ : ℤ
-n₁ = minus 31_557_248_009
+n₁ = minus 3_155_724_800_900
 
 abbrev pub n₂ : ℤ
-n₂ = pos 12_345_678_901
+n₂ = pos 1_234_567_890_123
 
 abbrev pub T₁ : ℚ
 T₁ = centuries n₁
@@ -95,26 +95,26 @@ parts₁ =
 -- the same at the second instant
 abbrev pub parts₂ : List Case
 parts₂ =
-    degrees T₂ L′ ≈ pos 188_495_584_663_958_163_219_790_370_337_465_772 e-30 ∷
-    degrees T₂ D ≈ pos 174_491_222_738_697_087_034_876_877_178_811_473 e-30 ∷
-    degrees T₂ M ≈ pos 14_440_752_006_081_490_103_204_176_023_947_012 e-30 ∷
-    degrees T₂ M′ ≈ pos 186_820_390_437_420_576_976_893_290_804_859_841 e-30 ∷
-    degrees T₂ F ≈ pos 189_127_195_302_405_641_058_168_165_655_054_532 e-30 ∷
-    degrees T₂ A1 ≈ pos 171_330_773_487_779_457_246_431_921_312_140 e-30 ∷
-    degrees T₂ A2 ≈ pos 187_546_531_613_295_855_514_994_803_153_598_499 e-30 ∷
-    degrees T₂ A3 ≈ pos 188_590_171_844_413_202_651_659_188_277_942_556 e-30 ∷
-    E T₂ ≈ pos 999_014_580_691_342_958_112_759_870_388 e-30 ∷
-    sine-term T₂ (row longitude-distance-terms 0) ≈ minus 2_110_567_851_900_706_304_584_855_340_600_014_767 e-30 ∷
-    sine-term T₂ (row longitude-distance-terms 4) ≈ minus 120_722_105_120_274_583_426_410_757_092_266_407 e-30 ∷
-    sine-term T₂ (row longitude-distance-terms 7) ≈ pos 48_710_929_650_049_750_922_071_168_947_301_045 e-30 ∷
-    sine-term T₂ (row longitude-distance-terms 33) ≈ minus 2_042_264_300_693_304_306_028_414_150_957_007 e-30 ∷
-    sine-term T₂ (row longitude-distance-terms 34) ≈ pos 2_016_233_597_975_515_020_193_880_980_973_676 e-30 ∷
-    cosine-term T₂ (row longitude-distance-terms 0) ≈ minus 19_692_874_791_847_685_985_899_295_611_403_130_940 e-30 ∷
-    cosine-term T₂ (row longitude-distance-terms 7) ≈ pos 78_967_589_040_997_701_693_254_248_566_747_732 e-30 ∷
-    cosine-term T₂ (row longitude-distance-terms 42) ≈ pos 407_257_350_215_862_236_937_435_577_137_169 e-30 ∷
-    sine-term T₂ (row latitude-terms 10) ≈ minus 3_533_830_423_424_947_975_121_576_332_292_842 e-30 ∷
-    ray τ₂ (row L0 1) ≈ pos 2_186_940_618_370_406_959_568_454_229_495_795_221 e-30 ∷
-    ray τ₂ (row R1 0) ≈ minus 29_781_988_127_912_000_696_584_319_438_176_620 e-30 ∷ []
+    degrees T₂ L′ ≈ pos 188_495_584_667_465_768_753_797_495_426_643_298 e-30 ∷
+    degrees T₂ D ≈ pos 174_491_222_741_942_309_589_326_956_249_130_703 e-30 ∷
+    degrees T₂ M ≈ pos 14_440_752_006_343_860_547_701_536_743_635_245 e-30 ∷
+    degrees T₂ M′ ≈ pos 186_820_390_440_898_526_538_990_942_059_375_636 e-30 ∷
+    degrees T₂ F ≈ pos 189_127_195_305_927_343_068_865_559_780_689_578 e-30 ∷
+    degrees T₂ A1 ≈ pos 171_330_773_488_740_407_065_176_059_015_895 e-30 ∷
+    degrees T₂ A2 ≈ pos 187_546_531_616_788_858_363_753_897_634_801_126 e-30 ∷
+    degrees T₂ A3 ≈ pos 188_590_171_847_920_798_011_255_608_791_543_083 e-30 ∷
+    E T₂ ≈ pos 999_014_580_691_324_578_651_644_382_755 e-30 ∷
+    sine-term T₂ (row longitude-distance-terms 0) ≈ minus 2_110_567_492_301_924_075_920_596_937_469_831_299 e-30 ∷
+    sine-term T₂ (row longitude-distance-terms 4) ≈ minus 120_722_105_761_799_233_845_897_298_383_599_683 e-30 ∷
+    sine-term T₂ (row longitude-distance-terms 7) ≈ pos 48_710_928_228_314_548_479_249_962_747_071_034 e-30 ∷
+    sine-term T₂ (row longitude-distance-terms 33) ≈ minus 2_042_264_303_487_219_847_225_255_717_154_808 e-30 ∷
+    sine-term T₂ (row longitude-distance-terms 34) ≈ pos 2_016_233_612_545_120_990_477_202_104_499_422 e-30 ∷
+    cosine-term T₂ (row longitude-distance-terms 0) ≈ minus 19_692_875_217_731_846_276_430_265_105_177_469_600 e-30 ∷
+    cosine-term T₂ (row longitude-distance-terms 7) ≈ pos 78_967_595_274_274_302_594_643_788_078_517_138 e-30 ∷
+    cosine-term T₂ (row longitude-distance-terms 42) ≈ pos 407_257_243_356_044_302_974_522_339_187_007 e-30 ∷
+    sine-term T₂ (row latitude-terms 10) ≈ minus 3_533_830_073_496_754_072_642_999_193_147_507 e-30 ∷
+    ray τ₂ (row L0 1) ≈ pos 2_186_940_629_940_613_137_756_000_002_242_859_839 e-30 ∷
+    ray τ₂ (row R1 0) ≈ minus 29_781_988_579_520_526_941_221_132_991_596_834 e-30 ∷ []
 
 -- the Moon's sums, whole
 abbrev pub moon-sums : List Case

@@ -16,7 +16,7 @@ unfoldable pub totalq : {A : Type 0} → (A → ℚ) → List A → ℚ
 totalq f [] = nat 0
 totalq f (row ∷ rows) = f row +q totalq f rows
 
--- T = n / 31,557,600,000, and τ = n / 315,576,000,000
+-- T = n / 3,155,760,000,000, and τ = n / 31,557,600,000,000
 abbrev pub centuries : ℤ → ℚ
 centuries n = whole n over century
 

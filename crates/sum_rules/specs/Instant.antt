@@ -9,9 +9,9 @@ use Rattle.number_rules.specs.Calendar.{days-from-2000}
 use Rattle.sum_rules.specs.declared.instant.Polynomial.{Polynomial}
 use Rattle.sum_rules.specs.declared.instant.Powers.{Powers}
 
--- THE UNIT OF TIME: so many to a second
+-- THE UNIT OF TIME, a millisecond: so many to a second
 abbrev pub second : ℕ
-second = 10
+second = 1000
 
 abbrev pub day : ℕ
 day = 86_400 * second
@@ -23,7 +23,7 @@ century = 36_525 * day
 abbrev pub millennium : ℕ
 millennium = 10 * century
 
--- UT = 864,000 d - 432,000 + tenths of the day + (UT1 minus UTC)
+-- UT = 86,400,000 d - 43,200,000 + milliseconds of the day + (UT1 minus UTC)
 abbrev pub universal-time : ℤ → ℤ → ℤ → ℤ
 universal-time d elapsed ut1 = pos day *ℤ d -ℤ pos (day / 2) +ℤ elapsed +ℤ ut1
 
@@ -86,7 +86,7 @@ pub record Suits (p : Polynomial) : Type 0 where
   pub s4-small : natAbs (p .s4) ≤ 1
   pub k4-above : 0 < p .k4
 
--- c0 + ⌊c1 n / 31,557,600,000⌋ + ⌊c2 p2 / 10⁶⌋ + ⌊±100 p3 / k3⌋ + ⌊±100 p4 / k4⌋, reduced
+-- c0 + ⌊c1 n / 3,155,760,000,000⌋ + ⌊c2 p2 / 10⁶⌋ + ⌊±100 p3 / k3⌋ + ⌊±100 p4 / k4⌋, reduced
 unfoldable pub value : Polynomial → ℤ → ℕ
 value p n = reduced (p .c0 +ℤ ⌊ p .c1 *ℤ n ÷ century ⌋ +ℤ ⌊ p .c2 *ℤ p2 n ÷ 1_000_000 ⌋
     +ℤ ⌊ pos 100 *ℤ p .s3 *ℤ p3 n ÷ p .k3 ⌋ +ℤ ⌊ pos 100 *ℤ p .s4 *ℤ p4 n ÷ p .k4 ⌋)

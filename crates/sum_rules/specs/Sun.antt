@@ -19,7 +19,7 @@ row-B row = getD row 1 0
 abbrev pub row-C : List ℕ → ℕ
 row-C row = getD row 2 0
 
--- B times 10⁸ plus ⌊C 10⁸ n / 315,576,000,000⌋, remainder by 628,318,531, times 5,729,577,951 over 10⁸
+-- B times 10⁸ plus ⌊C 10⁸ n / 31,557,600,000,000⌋, remainder by 628,318,531, times 5,729,577,951 over 10⁸
 abbrev pub phase : ℤ → ℕ → ℤ
 phase n c = ⌊ pos c *ℤ n ÷ millennium ⌋
 
@@ -38,7 +38,7 @@ unfoldable pub down : ℤ → List (List (List ℕ)) → ℤ
 down n [] = pos 0
 down n (rows ∷ above) = group n rows +ℤ ⌊ down n above *ℤ u n ÷ 10_000_000 ⌋
 
--- but into group 0 with n / 315,576,000,000
+-- but into group 0 with n / 31,557,600,000,000
 unfoldable pub series : ℤ → List (List (List ℕ)) → ℤ
 series n [] = pos 0
 series n (rows ∷ above) = group n rows +ℤ ⌊ down n above *ℤ n ÷ millennium ⌋

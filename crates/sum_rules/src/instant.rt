@@ -1,6 +1,6 @@
 // The unit of time, instants in both scales, their powers, and polynomials in them.
-// The unit of time: so many to a second.
-pub const SECOND: u64 = 10;
+// The unit of time, a millisecond: so many to a second.
+pub const SECOND: u64 = 1000;
 
 pub const DAY: u64 = 86_400 * SECOND;
 

@@ -27,8 +27,8 @@ Holds (units-of z line) = decimals z ≡ bytes line
 
 abbrev pub cases : List Case
 cases =
-    line-of 9 9 "2000 1 2 12 0 0 0 -9 80000"
-    (some (pos 2000 ∷ pos 1 ∷ pos 2 ∷ pos 12 ∷ pos 0 ∷ pos 0 ∷ pos 0 ∷ negsuc 8 ∷ pos 80000 ∷ [])) ∷
+    line-of 9 9 "2000 1 2 12 0 0 0 -900 8000000"
+    (some (pos 2000 ∷ pos 1 ∷ pos 2 ∷ pos 12 ∷ pos 0 ∷ pos 0 ∷ pos 0 ∷ negsuc 899 ∷ pos 8000000 ∷ [])) ∷
     line-of 3 9 "-0 007 -999999999" (some (pos 0 ∷ pos 7 ∷ negsuc 999999998 ∷ [])) ∷
     line-of 2 9 "1 2 3" none ∷
     line-of 1 9 "" none ∷

@@ -25,7 +25,8 @@ pub fn exactly<const N: usize>(text: &str) -> [i64; N] {
 
 /// A start and a point from twelve numbers.
 pub fn start_and_point(text: &str) -> (Start, Point) {
-    let [year, month, day, hour, minute, second, tenth, ut1, delta_t, longitude, latitude, height] = exactly(text);
-    let start = Start { year, month, day, hour, minute, second, tenth, ut1, delta_t };
+    let [year, month, day, hour, minute, second, millisecond, ut1, delta_t, longitude, latitude, height] =
+        exactly(text);
+    let start = Start { year, month, day, hour, minute, second, millisecond, ut1, delta_t };
     (start, Point { longitude, latitude, height })
 }

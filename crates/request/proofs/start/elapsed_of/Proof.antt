@@ -1,10 +1,10 @@
 -- `request::start::elapsed_of` meets its contract.
-use Prim.Native.Nat.{_-_, zero-le}
+use Prim.Native.Nat.{zero-le}
 use lib.IntN.{pos}
 use borrow.Author.Needs.{needs}
 use Rattle.numbers.proofs.Machine.{Mirror, _⊕_, _⊗_, field, fits, kept, lit}
 use Rattle.request.proofs.RequestLaws.{Clock, between-size, clock}
-use Rattle.request.specs.Request.{elapsed}
+use Rattle.request.specs.Request.{elapsed, fraction-limit}
 use Rattle.request.specs.declared.start.Start.{Start}
 use Rattle.sum_rules.specs.Instant as Unit
 use Rattle.request.proofs.start.elapsed_of.Statement.{statement}
@@ -27,7 +27,7 @@ module _ (s : tie.Start) where
   second = field (start .second) (between-size 0 59 (start .second) zero-le (ticks .second)) tt
 
   abbrev fraction : Mirror
-  fraction = field (start .fraction) (between-size 0 (Unit.second - 1) (start .fraction) zero-le (ticks .fraction)) tt
+  fraction = field (start .fraction) (between-size 0 fraction-limit (start .fraction) zero-le (ticks .fraction)) tt
 
   abbrev minutes : Mirror
   minutes = kept (kept (hour ⊗ lit (pos 60)) tt ⊕ minute) tt

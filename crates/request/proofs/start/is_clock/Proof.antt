@@ -1,6 +1,5 @@
 -- `request::start::is_clock` meets its contract: at each return the tests that led there decide it.
 use mathlib.Core.Path.{_∙_, _≡_}
-use Prim.Native.Nat.{_-_}
 use lib.IntN.{pos}
 use borrow.Author.Needs.{needs}
 use borrow.Author.Tests.{not-false, not-true}
@@ -8,8 +7,7 @@ use mir.Syntax.{w64}
 use mir.Val.{SFits}
 use Rattle.request.proofs.RequestLaws.{tested}
 use Rattle.numbers.specs.Whole.{between}
-use Rattle.request.specs.Request.{is-clock}
-use Rattle.sum_rules.specs.Instant as Instant
+use Rattle.request.specs.Request.{fraction-limit, is-clock}
 use Rattle.request.proofs.start.is_clock.Statement.{statement}
 use Rattle.request.proofs.start.is_clock.Tie as tie
 
@@ -52,8 +50,8 @@ module _ (c : tie.After-is-between4) where
   abbrev third : tie.After-is-between3
   third = c .before .before .before
 
-  fraction : between (pos 0) (s₃ third .args .start .fraction) (pos (Instant.second - 1)) ≡ c .is-between4 .result
-  fraction = tested (pos 0) (s₃ third .args .start .fraction) (pos (Instant.second - 1)) (fraction-fits (s₃ third)) (c .is-between4 .ensures)
+  fraction : between (pos 0) (s₃ third .args .start .fraction) (pos fraction-limit) ≡ c .is-between4 .result
+  fraction = tested (pos 0) (s₃ third .args .start .fraction) (pos fraction-limit) (fraction-fits (s₃ third)) (c .is-between4 .ensures)
 
 is-between-requires : tie.Need-is-between-requires
 is-between-requires c κs = search needs

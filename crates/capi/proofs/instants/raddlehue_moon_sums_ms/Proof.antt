@@ -1,4 +1,4 @@
--- `capi::instants::raddlehue_moon_sums` meets its contract.
+-- `capi::instants::raddlehue_moon_sums_ms` meets its contract.
 use mathlib.Core.List.{[], _∷_}
 use mathlib.Core.Path.{_∙_, ap}
 use lib.IntN.{pos}
@@ -12,8 +12,8 @@ use Rattle.sum_rules.specs.Moon.{latitude, longitude, metres}
 use Rattle.moon_sums.proofs.MoonSizes.{moon-longitude-most}
 use Rattle.capi.specs.Instants.{moon-values}
 use Rattle.capi.proofs.InstantLaws.{near, out-of-reach, within-reach}
-use Rattle.capi.proofs.instants.raddlehue_moon_sums.Statement.{statement}
-use Rattle.capi.proofs.instants.raddlehue_moon_sums.Tie as tie
+use Rattle.capi.proofs.instants.raddlehue_moon_sums_ms.Statement.{statement}
+use Rattle.capi.proofs.instants.raddlehue_moon_sums_ms.Tie as tie
 
 reach-refusal-requires : tie.Need-reach-refusal-requires
 reach-refusal-requires c κs = search needs
@@ -48,6 +48,6 @@ returns-2 c =
     within-reach (s .fits .tt) (e .before .reach-refusal .ensures) (moon-values (s .args .tt)) (s .args .sums .now) (e .if1 .left)
     (c .put-triple .ensures ∙ (λ i. eastward i ∷ northward i ∷ outward i ∷ []))
 
-pub raddlehue-moon-sums-spec : {M : Type 1} → statement M
-raddlehue-moon-sums-spec =
+pub raddlehue-moon-sums-ms-spec : {M : Type 1} → statement M
+raddlehue-moon-sums-ms-spec =
     tie.close (tie.spec reach-refusal-requires returns moon-requires cast-put-triple put-triple-requires returns-2)

@@ -1,4 +1,4 @@
--- `capi::instants::raddlehue_mean_sidereal` meets its contract.
+-- `capi::instants::raddlehue_mean_sidereal_ms` meets its contract.
 use mathlib.Core.Path.{_∙_, ap}
 use lib.IntN.{pos}
 use mir.Syntax.{w64}
@@ -10,8 +10,8 @@ use Rattle.sum_rules.specs.Sidereal.{mean}
 use Rattle.sum_rules.specs.declared.instant.Powers.{Powers}
 use Rattle.sum_terms.proofs.InstantLaws.{mean-most, reached}
 use Rattle.capi.proofs.InstantLaws.{near, out-of-reach, within-reach}
-use Rattle.capi.proofs.instants.raddlehue_mean_sidereal.Statement.{statement}
-use Rattle.capi.proofs.instants.raddlehue_mean_sidereal.Tie as tie
+use Rattle.capi.proofs.instants.raddlehue_mean_sidereal_ms.Statement.{statement}
+use Rattle.capi.proofs.instants.raddlehue_mean_sidereal_ms.Tie as tie
 
 reach-refusal-requires : tie.Need-reach-refusal-requires
 reach-refusal-requires c κs = search needs
@@ -38,6 +38,6 @@ returns-2 c =
     within-reach (s .fits .ut) (e .before .reach-refusal .ensures) (pos (mean (s .args .ut))) (s .args .sidereal .now) (e .if1 .left)
     (toZ-pos w64 (c .mean-at .result) (cast-sidereal c .sfits) ∙ ap pos (c .mean-at .ensures ∙ ap mean instant))
 
-pub raddlehue-mean-sidereal-spec : {M : Type 1} → statement M
-raddlehue-mean-sidereal-spec =
+pub raddlehue-mean-sidereal-ms-spec : {M : Type 1} → statement M
+raddlehue-mean-sidereal-ms-spec =
     tie.close (tie.spec reach-refusal-requires returns powers-at-requires mean-at-requires cast-sidereal returns-2)

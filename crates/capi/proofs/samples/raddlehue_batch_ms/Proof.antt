@@ -1,4 +1,4 @@
--- `capi::samples::raddlehue_batch` meets its contract. The sky's answer is the batch's own, where the body is known, and both buffers are what the sky left;
+-- `capi::samples::raddlehue_batch_ms` meets its contract. The sky's answer is the batch's own, where the body is known, and both buffers are what the sky left;
 -- each case of the answer then says what is told. An unknown body leaves everything as it was.
 use mathlib.Core.List.{List}
 use mathlib.Core.Path.{_∙_, _≡_, ap, sym}
@@ -13,8 +13,8 @@ use Rattle.boundary.specs.Codes.{body-refusal}
 use Rattle.boundary.specs.Given.{point-from}
 use Rattle.capi.proofs.BatchLaws.{body-not-late, buffer-kept, untold}
 use Rattle.capi.proofs.WrittenLaws.{known, unknown}
-use Rattle.capi.proofs.samples.raddlehue_batch.Statement.{statement}
-use Rattle.capi.proofs.samples.raddlehue_batch.Tie as tie
+use Rattle.capi.proofs.samples.raddlehue_batch_ms.Statement.{statement}
+use Rattle.capi.proofs.samples.raddlehue_batch_ms.Tie as tie
 
 -- what is asked for: the rule's answer, that to an unknown body, the two together, and what they leave in the buffers
 module _ (s : tie.Start) where
@@ -156,8 +156,8 @@ returns-4 c =
       ),
     )
 
-pub raddlehue-batch-spec : {M : Type 1} → statement M
-raddlehue-batch-spec =
+pub raddlehue-batch-ms-spec : {M : Type 1} → statement M
+raddlehue-batch-ms-spec =
     tie.close
     (tie.spec
     body-refusal-requires

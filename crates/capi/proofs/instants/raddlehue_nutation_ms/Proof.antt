@@ -1,4 +1,4 @@
--- `capi::instants::raddlehue_nutation` meets its contract.
+-- `capi::instants::raddlehue_nutation_ms` meets its contract.
 use mathlib.Core.List.{[], _∷_}
 use mathlib.Core.Path.{_∙_, _≡_, ap}
 use Prim.Native.Nat.{_≤_}
@@ -14,8 +14,8 @@ use Rattle.sum_terms.proofs.InstantLaws.{reached}
 use Rattle.earth.proofs.NutationLaws.{Δε-most}
 use Rattle.capi.specs.Instants.{nutation-values}
 use Rattle.capi.proofs.InstantLaws as At
-use Rattle.capi.proofs.instants.raddlehue_nutation.Statement.{statement}
-use Rattle.capi.proofs.instants.raddlehue_nutation.Tie as tie
+use Rattle.capi.proofs.instants.raddlehue_nutation_ms.Statement.{statement}
+use Rattle.capi.proofs.instants.raddlehue_nutation_ms.Tie as tie
 
 -- the instant, as the machine has it
 abbrev at : tie.Else1 → ℤ
@@ -76,8 +76,8 @@ returns-2 c =
     At.within-reach (s .fits .tt) (e d .before .reach-refusal .ensures) (nutation-values (s .args .tt)) (s .args .nutation .now) (e d .if1 .left)
     (c .put-triple .ensures ∙ (λ i. longitude i ∷ slant i ∷ whole i ∷ []))
 
-pub raddlehue-nutation-spec : {M : Type 1} → statement M
-raddlehue-nutation-spec =
+pub raddlehue-nutation-ms-spec : {M : Type 1} → statement M
+raddlehue-nutation-ms-spec =
     tie.close
     (tie.spec
     reach-refusal-requires

@@ -1,4 +1,4 @@
--- `capi::instants::raddlehue_sun_sums` meets its contract.
+-- `capi::instants::raddlehue_sun_sums_ms` meets its contract.
 use mathlib.Core.List.{[], _∷_}
 use mathlib.Core.Path.{_∙_, ap}
 use borrow.Author.Needs.{needs}
@@ -7,8 +7,8 @@ use Rattle.numbers.proofs.Machine.{any, passed}
 use Rattle.sum_rules.specs.Sun.{B, L, R}
 use Rattle.capi.specs.Instants.{sun-values}
 use Rattle.capi.proofs.InstantLaws.{near, out-of-reach, within-reach}
-use Rattle.capi.proofs.instants.raddlehue_sun_sums.Statement.{statement}
-use Rattle.capi.proofs.instants.raddlehue_sun_sums.Tie as tie
+use Rattle.capi.proofs.instants.raddlehue_sun_sums_ms.Statement.{statement}
+use Rattle.capi.proofs.instants.raddlehue_sun_sums_ms.Tie as tie
 
 reach-refusal-requires : tie.Need-reach-refusal-requires
 reach-refusal-requires c κs = search needs
@@ -38,5 +38,5 @@ returns-2 c =
     within-reach (s .fits .tt) (e .before .reach-refusal .ensures) (sun-values (s .args .tt)) (s .args .sums .now) (e .if1 .left)
     (c .put-triple .ensures ∙ (λ i. eastward i ∷ northward i ∷ outward i ∷ []))
 
-pub raddlehue-sun-sums-spec : {M : Type 1} → statement M
-raddlehue-sun-sums-spec = tie.close (tie.spec reach-refusal-requires returns sun-requires put-triple-requires returns-2)
+pub raddlehue-sun-sums-ms-spec : {M : Type 1} → statement M
+raddlehue-sun-sums-ms-spec = tie.close (tie.spec reach-refusal-requires returns sun-requires put-triple-requires returns-2)
