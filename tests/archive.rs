@@ -261,7 +261,7 @@ pub fn at_minute(numbers: &[i64; 8], minute: usize) -> [i64; 12] {
 
 // Times of one day, in milliseconds from its midnight.
 pub const MINUTE_MS: i64 = 60_000;
-pub const LAST_OF_DAY_MS: i64 = 1440 * MINUTE_MS - 1;
+pub const LAST_OF_DAY_MS: i64 = MINUTES as i64 * MINUTE_MS - 1;
 
 // The clock of a place's twelve numbers.
 pub fn clock_ms(numbers: &[i64; 12]) -> i64 {

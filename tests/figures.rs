@@ -66,7 +66,7 @@ fn reference_shown(body: u32, call: u64) -> i64 {
 }
 
 fn offsets() -> Vec<u32> {
-    (0..MINUTES as u32).map(|minute| minute * 60_000).collect()
+    (0..MINUTES as u32).map(|minute| minute * MINUTE_MS as u32).collect()
 }
 
 fn batch_of_a_day(body: u32, call: u64) -> i64 {

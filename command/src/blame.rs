@@ -31,6 +31,8 @@ fn at_fault(number: u32, words: &Words) -> Option<String> {
         _ => return None,
     };
     match words.value(flag) {
+        // The library's sentence has these in milliseconds: 900 for 0.9 would seem to be within them.
+        Some(value) if matches!(number, 5 | 6) => Some(format!("in seconds, {flag} {}", quoted(value))),
         Some(value) => Some(format!("{flag} {}", quoted(value))),
         None if flag == "--start" => words.all_positional().last().map(quoted),
         None => None,

@@ -197,6 +197,11 @@ fn other_numbers() {
         }
     }
     let at = ["place", "sun", "2026-08-09T12:00Z"];
+    // Milliseconds where seconds are meant.
+    for (flag, word) in [("--ut1", "900"), ("--delta-t", "67000")] {
+        let sentence = refused(&here(&[&at[..], &[flag, word]].concat()), "", 1, word);
+        assert!(sentence.contains(&format!("in seconds, {flag} {word:?}: refused ")), "{sentence}");
+    }
     for word in ["thin", "", "1e3", "inf", "nan", "1013,2", "0.1234567"] {
         refused(&here(&[&at[..], &["--pressure", word, "--temperature", "10"]].concat()), "", 2, word);
         refused(&here(&[&at[..], &["--pressure", "1010", "--temperature", word]].concat()), "", 2, word);
