@@ -170,7 +170,7 @@ typedef struct {
 
 /* The air, as the inline functions take it. */
 typedef struct {
-    uint32_t kind;              /* RADDLEHUE_AIR_.. */
+    uint32_t kind;              /* RADDLEHUE_AIR_NONE or RADDLEHUE_AIR_MEASURED */
     double pressure_mbar;       /* read only where measured, 0 to 1200 */
     double temperature_celsius; /* read only where measured, -80 to 80 */
 } raddlehue_air_t;
@@ -363,7 +363,7 @@ enum { RADDLEHUE_AIR_CARRIED_OVER = 3 };
 
 /* What a strip says beside its azimuths. */
 typedef struct {
-    int64_t air_kind;     /* RADDLEHUE_AIR_NONE; RADDLEHUE_AIR_CARRIED_OVER of an old strip that is read; measured air of either kind is not written */
+    int64_t air_kind;     /* RADDLEHUE_AIR_NONE, or RADDLEHUE_AIR_CARRIED_OVER where an old strip was read; measured air, carried over or not, is not written */
     int64_t body;         /* RADDLEHUE_SUN or RADDLEHUE_MOON */
     int64_t year;         /* 1900 to 2100, of a UTC date */
     int64_t month;        /* 1 to 12 */
@@ -419,8 +419,8 @@ typedef struct {
     double temperature_celsius;
 } raddlehue_strip_measured_t;
 
-/* What the header of a strip says. The bytes are the whole strip: its azimuths are judged too, and left where they are. The length is judged twice, first against
- * the bytes (and 16, the least), then against the step. Refused: 20, 21 to 25, 20 against the step, and 26. */
+/* What the header of a strip says, and what its air was measured at. The bytes are the whole strip: its azimuths are judged too, and left where they are. The length is
+ * judged twice, first against the bytes (and 16, the least), then against the step. Refused: 20, 21 to 25, 20 against the step, and 26. */
 uint32_t raddlehue_strip_read(const uint8_t *bytes, uint64_t bytes_length, raddlehue_strip_t *strip, raddlehue_strip_measured_t *measured);
 
 /* The air of a strip, with the mark that it was carried over in its kind. It is another type than a request's air, so that the mark is not lost unseen:
@@ -450,8 +450,8 @@ RADDLEHUE_INLINE raddlehue_strip_read_answer_t raddlehue_strip_read_of(const uin
     return answer;
 }
 
-/* The air of a request at the place of a strip: none, or measured at the same pressure and temperature. The shown place in it has the bits that it had in standard
- * air. */
+/* The air of a request at the place of a strip: none, or measured at the same pressure and temperature. Where it was carried over the shown place has the bits that
+ * it had in standard air. */
 RADDLEHUE_INLINE raddlehue_air_t raddlehue_request_air(raddlehue_strip_air_t air)
 {
     raddlehue_air_t request;

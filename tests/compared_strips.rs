@@ -52,8 +52,8 @@ pub fn draw(random: &mut Random, turn: u64, seen: &mut Tally) {
     read_of(&bytes, seen);
     read_of(&old(&bytes), seen);
     for _ in 0..DAMAGED {
-        let strip = if random.one_in(2) { &bytes } else { &old(&bytes) };
-        read_of(&damaged(random, strip), seen);
+        let strip = maybe_old(random, &bytes);
+        read_of(&damaged(random, &strip), seen);
     }
     let buffer = (size(random, bytes.len()), random.next() as u8);
     write_of(&damaged_header(random, &header), &damaged_azimuths(random, &azimuths), buffer, seen);
@@ -146,6 +146,11 @@ fn step_of(random: &mut Random, part: &[u8], seen: &mut Tally) {
 
 // ---- two strips
 
+// The strip, or the same with air byte 1.
+fn maybe_old(random: &mut Random, strip: &[u8]) -> Box<[u8]> {
+    if random.one_in(2) { old(strip) } else { strip.into() }
+}
+
 // A strip of that date, and else any.
 fn another(random: &mut Random, date: [i64; 3]) -> Box<[u8]> {
     let mut header = header(random);
@@ -153,7 +158,7 @@ fn another(random: &mut Random, date: [i64; 3]) -> Box<[u8]> {
     let azimuths = azimuths(random, steps(header[7]));
     let mut bytes: Box<[u8]> = vec![0; strip_bytes(header[7])].into();
     assert_eq!(reference_strips::strip_write(&header, &azimuths, &mut bytes).0, 0, "{header:?}");
-    bytes
+    maybe_old(random, &bytes)
 }
 
 // Of a strip and another, on another date or on its own, either of them damaged now and then. The date asked for is one of theirs, has only the same low bytes, or is
@@ -162,7 +167,7 @@ fn lookup_of(random: &mut Random, header: &Header, bytes: &[u8], seen: &mut Tall
     let [_, _, year, month, day, ..] = *header;
     let own = [year, month, day];
     let other = if random.one_in(4) { own } else { random_days::date(random) };
-    let mut pair = [bytes.into(), another(random, other)];
+    let mut pair = [maybe_old(random, bytes), another(random, other)];
     if random.one_in(2) {
         pair.reverse();
     }

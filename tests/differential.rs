@@ -101,7 +101,7 @@ fn code(random: &mut Random, known: u32) -> u32 {
     }
 }
 
-// None or measured, and now and then a kind that is neither: what standard air had, what a strip's may be beside, or any.
+// None or measured, and now and then a kind that is neither: 1, which was standard, 3, which is a strip's alone, or any.
 fn kind(random: &mut Random) -> u32 {
     match random.below(64) {
         0 => 1,

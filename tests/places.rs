@@ -115,7 +115,7 @@ fn codes() {
     }
 }
 
-// A request's air is none or measured: neither 1, which was standard, nor what a strip's may be beside.
+// A request's air is none or measured: not 1, which was standard, nor 3, which is a strip's alone.
 fn kinds() {
     for kind in [1, 3, 4, 256, 258, 1 << 31, u32::MAX] {
         for (pressure, temperature) in [(0.0, 0.0), (1010.0, 10.0), (f64::NAN, 0.0)] {

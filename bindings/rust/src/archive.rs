@@ -40,7 +40,7 @@ pub struct RiseSet {
 
 /// A strip's header as C has it, air and body by their codes.
 #[repr(C)]
-#[derive(Clone, Copy, Default, PartialEq, Eq, Hash)]
+#[derive(Clone, Copy, Default)]
 pub struct Strip {
     pub air_kind: i64,
     pub body: i64,

@@ -242,7 +242,7 @@ impl StripAir {
     }
 }
 
-/// The air of a request for the same place: the mark is left behind. The shown place in it has the bits that it had in standard air.
+/// The air of a request for the same place: the mark is left behind. Where it was carried over the shown place has the bits that it had in standard air.
 impl From<StripAir> for Air {
     fn from(air: StripAir) -> Air {
         match air {

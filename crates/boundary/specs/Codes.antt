@@ -1,6 +1,7 @@
 -- The codes of a body and of an air, and the refusals outside 01's numbers: no request can be formed, so they are given before all others.
 use mathlib.Core.Bool.{_||_, cond}
 use mathlib.Core.List.{[], _∷_}
+use mathlib.Core.Path.{_≡_}
 use Prim.Native.Nat.{ℕ}
 use lib.Dec.{eqb, leb}
 use lib.Ieee.{Float}
@@ -72,13 +73,13 @@ abbrev pub kind-refusal : ℕ → ℕ
 kind-refusal kind = unknown-air unless (eqb kind none || eqb kind measured)
 
 -- a strip's air may have been carried over too, which is no kind of a request's
-abbrev pub carried-over : ℕ
-carried-over = 3
+abbrev pub carried-over-kind : ℕ
+carried-over-kind = 3
 
 abbrev pub strip-kind-of : StripAir → ℕ
 strip-kind-of Strips.None = none
 strip-kind-of (Strips.Measured pressure temperature) = measured
-strip-kind-of (Strips.CarriedOver pressure temperature) = carried-over
+strip-kind-of (Strips.CarriedOver pressure temperature) = carried-over-kind
 
 -- of measured air in a strip no pressure and no temperature is asked, since it is refused
 abbrev pub strip-air-of : ℕ → StripAir
@@ -87,7 +88,11 @@ strip-air-of kind =
     (cond (eqb kind measured) (Strips.Measured (double (pos 0)) (double (pos 0))) (Strips.CarriedOver (double (pos 0)) (double (pos 0))))
 
 abbrev pub strip-kind-refusal : ℕ → ℕ
-strip-kind-refusal kind = unknown-air unless (eqb kind carried-over || (eqb kind none || eqb kind measured))
+strip-kind-refusal kind = unknown-air unless (eqb kind carried-over-kind || (eqb kind none || eqb kind measured))
+
+-- THE CLAIM (02, Item 9): new requests can't name standard air, whose kind was 1, nor what is carried over; nor does a strip name standard air
+abbrev pub StandardUnnamed : Type 0
+StandardUnnamed = (kind-refusal 1 ≡ 102) × (kind-refusal 3 ≡ 102) × (strip-kind-refusal 1 ≡ 102)
 
 -- a code that is given in 64 bits: what is no number of 32 bits counts as the largest, which is no code
 abbrev pub largest : ℕ

@@ -76,7 +76,7 @@ pub fn run_cases() {
     write(b"\n");
 }
 
-// Air that is carried over from an old strip raises as measured air at 1010 mbar and 10 degrees does.
+// To the last bit: neither is a NaN.
 fn are_same(a: Shown, b: Shown) -> bool {
     a.azimuth == b.azimuth && a.elevation == b.elevation && a.refraction == b.refraction
 }
@@ -102,6 +102,7 @@ fn shown_in(air: Air) -> Shown {
     }
 }
 
+// Air that is carried over from an old strip raises as measured air at 1010 mbar and 10 degrees does.
 pub fn whole_path() {
     let seen = shown_in(request_air(air_in(1)));
     let measured = shown_in(Air::Measured(1010.0, 10.0));

@@ -3,7 +3,7 @@
 -- (1.02·c)/(60·s) is at most twice the largest cosine, since the sine of q is above zero.
 use mathlib.Core.Bool.{false, true}
 use mathlib.Core.List.{[], _∷_}
-use mathlib.Core.Path.{_≡_, refl}
+use mathlib.Core.Path.{_≡_}
 use Prim.Native.Nat.{_*_, _+_, _-_, _<_, _≤_, ℕ}
 use native.Mathlib.Omega.{arith}
 use lib.Dec.{lit<, lit≤}

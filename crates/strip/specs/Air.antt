@@ -13,7 +13,7 @@ use Rattle.strip.specs.declared.air.StripAir.the-variants.{CarriedOver, 
 abbrev pub carried-over : StripAir
 carried-over = CarriedOver (double (pos 1010)) (double (pos 10))
 
--- the reader's: air byte 0 none; strips that hold air byte 1 are still read
+-- the reader's: air byte 0 none; strips that hold air byte 1 are still read (others are refused by 22)
 abbrev pub air-in : ℕ → StripAir
 air-in byte = cond (eqb byte 0) None carried-over
 

@@ -3,7 +3,7 @@ use refraction::air::Air;
 ghost use mathlib.Core.Path.{_≡_};
 ghost use Rattle.strip.specs.Air.{air-in, is-none, request-air};
 
-// Measured with a pressure in mbar and a temperature in °C. The mark that it was carried over is a case of its own, so that there is no air beside it that could go without.
+// Measured with a pressure in mbar and a temperature in °C. The mark that it was carried over is a case, so that no copy of the air is without it.
 pub enum StripAir {
     None,
     Measured(f64, f64),
@@ -38,7 +38,7 @@ pub fn is_none(air: StripAir) -> bool
     }
 }
 
-// The air of a request for the same place.
+// The air of a request for the same place: here the mark is left behind.
 pub fn request_air(air: StripAir) -> Air
     ensures { λ r. ⌜ r ≡ request-air air ⌝ }
 {

@@ -16,30 +16,34 @@ use Rattle.sky_vectors.specs.Place.{place-at}
 use Rattle.sky_vectors.specs.declared.station.Point.{Point}
 use Rattle.strip.specs.Air.{air-in, carried-over, request-air}
 use Rattle.strip.specs.Checks.{is-date, is-point}
-use Rattle.strip.specs.Format.{fields, header-in}
+use Rattle.strip.specs.Format.{fields, header-in, strip-in}
 use Rattle.strip.specs.declared.air.StripAir.{StripAir}
 use Rattle.strip.specs.declared.header.Header.{Header}
-use Rattle.strip_reader.specs.CarriedOver.{ReadWithMark, ShownAsBefore, StillRead}
+use Rattle.strip_reader.specs.CarriedOver.{ReadWithMark, ShownAsBefore, StillRead, with-air}
 use Rattle.strip_reader.specs.Reading.{length-agrees, no-header, read, read-refusals}
+use Rattle.strip_reader.proofs.ReadLaws.{decoded-refusal, decoded-value}
 
--- ---- the checks
-refusal-is : (octets : List ℕ) → read octets .refusal ≡ first (read-refusals octets)
-unfolding read
-refusal-is octets = judged-refusal (first (read-refusals octets)) no-header (header-in (fields octets))
-
+-- ---- the checks, and what is said
 same-checks : (high low version : ℕ) (rest : List ℕ) → first (read-refusals (high ∷ low ∷ version ∷ 1 ∷ rest)) ≡ first (read-refusals (high ∷ low ∷ version ∷ 0 ∷ rest))
 unfolding length-agrees fields header-in parted number-after is-date is-point
 same-checks high low version rest = refl
 
+same-strip : (high low version : ℕ) (rest : List ℕ) → strip-in (high ∷ low ∷ version ∷ 1 ∷ rest) ≡ with-air carried-over (strip-in (high ∷ low ∷ version ∷ 0 ∷ rest))
+unfolding fields header-in parted number-after
+same-strip high low version rest = refl
+
 pub still-read : StillRead
 still-read high low version rest =
-    refusal-is (high ∷ low ∷ version ∷ 1 ∷ rest) ∙ same-checks high low version rest ∙ sym (refusal-is (high ∷ low ∷ version ∷ 0 ∷ rest))
+    let old = high ∷ low ∷ version ∷ 1 ∷ rest in
+    let without = high ∷ low ∷ version ∷ 0 ∷ rest in
+    let same = decoded-refusal old ∙ same-checks high low version rest ∙ sym (decoded-refusal without) in
+    (same, λ e. decoded-value old e ∙ same-strip high low version rest ∙ ap (with-air carried-over) (sym (decoded-value without (sym same ∙ e))))
 
 -- ---- the air
 pub read-with-mark : ReadWithMark
 unfolding read header-in
 read-with-mark octets e one =
-    let accepted = sym (refusal-is octets) ∙ e in
+    let accepted = sym (judged-refusal (first (read-refusals octets)) no-header (header-in (fields octets))) ∙ e in
     ap (λ (a : Answer Header). a .value .air) (judged-value (first (read-refusals octets)) no-header (header-in (fields octets)) accepted) ∙ ap air-in one
 
 -- ---- the shown place

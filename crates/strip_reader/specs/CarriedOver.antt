@@ -14,14 +14,36 @@ use Rattle.sky.specs.declared.shown.Shown.{Shown}
 use Rattle.sky_vectors.specs.Place.{place-at}
 use Rattle.sky_vectors.specs.declared.geocentric.Body.{Body}
 use Rattle.sky_vectors.specs.declared.station.Point.{Point}
-use Rattle.strip.specs.Air.{request-air}
-use Rattle.strip.specs.Format.{air-byte}
+use Rattle.strip.specs.Air.{carried-over, request-air}
+use Rattle.strip.specs.Format.{Strip, air-byte, strip-of}
+use Rattle.strip.specs.declared.air.StripAir.{StripAir}
 use Rattle.strip.specs.declared.air.StripAir.the-variants.{CarriedOver}
-use Rattle.strip_reader.specs.Reading.{read}
+use Rattle.strip_reader.specs.Reading.{decode, read}
 
--- with air byte 1 a strip is refused as it would be with 0, and for nothing else; its length stands in the first two bytes, its version in the third
+-- what a strip says, but for its air
+abbrev pub with-air : StripAir → Strip → Strip
+with-air air strip =
+    let header = strip .header in
+    strip-of
+    (record {
+      air = air;
+      body = header .body;
+      year = header .year;
+      month = header .month;
+      day = header .day;
+      longitude = header .longitude;
+      latitude = header .latitude;
+      step = header .step;
+    })
+    (strip .azimuths)
+
+-- with air byte 1 a strip is refused as it would be with 0, and for nothing else, and says the same but for its air; before that byte stand the length's two and the version
 abbrev pub StillRead : Type 0
-StillRead = (high low version : ℕ) (rest : List ℕ) → read (high ∷ low ∷ version ∷ 1 ∷ rest) .refusal ≡ read (high ∷ low ∷ version ∷ 0 ∷ rest) .refusal
+StillRead =
+    (high low version : ℕ) (rest : List ℕ)
+    → let old = decode (high ∷ low ∷ version ∷ 1 ∷ rest) in
+    let without = decode (high ∷ low ∷ version ∷ 0 ∷ rest) in
+    (old .refusal ≡ without .refusal) × (old .refusal ≡ 0 → old .value ≡ with-air carried-over (without .value))
 
 -- the reader answers measured air at 1010 mbar and 10 °C with a mark that it was carried over
 abbrev pub ReadWithMark : Type 0

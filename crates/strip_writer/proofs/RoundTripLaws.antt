@@ -1,5 +1,5 @@
 -- Reading what was written, and writing what was read. A strip that the writer's checks pass has numbers that fit their widths, so its fields and its azimuths come back; octets that the reader's checks pass have as many azimuths
--- as the step wants, so that every octet belongs to a field.
+-- as the step wants, so that every octet belongs to a field, and are a strip that passes all of the writer's checks but that of the air, which octet 0 passes and octet 1 does not.
 use mathlib.Core.Bool.{Bool, _&&_, cond, false, true}
 use mathlib.Core.List.{List, [], _++_, _∷_}
 use mathlib.Core.Path.{_∙_, _≡_, ap, ap₂, refl, sym}
@@ -10,13 +10,13 @@ use lib.IntN.{natAbs}
 use lib.ListN.{drop, getD, length, length-drop, take, take-append-drop}
 use lib.Seq.{drop-at, length-take-le}
 use borrow.Author.Tests.{eq-eqb, eqb-true, le-leb, leb-true, lt-ltb}
-use Rattle.calendar.proofs.RefusalLaws.{first-one, none, none-append, passed-first, passes}
+use Rattle.calendar.proofs.RefusalLaws.{first-one, none, none-append, passed-first, passes, refused-first}
 use Rattle.calendar.specs.Refusal.{_unless_, first}
 use Rattle.octets.proofs.FieldLaws.{fit-at, joined-again, left-octets, off, parted-again, parted-append, parted-fit, taken-octets, total-alike}
 use Rattle.octets.proofs.NumberLaws.{complement-again, complement-small, signed-again}
 use Rattle.octets.specs.Again.{fit}
-use Rattle.octets.specs.Octets.{alike, complement, is-octet, joined, parted, total}
-use Rattle.sky.proofs.AnswerLaws.{answered-with, judged-refusal}
+use Rattle.octets.specs.Octets.{alike, big-endian, complement, is-octet, joined, number-after, parted, total}
+use Rattle.sky.proofs.AnswerLaws.{answered-with, refused-with}
 use Rattle.sky.specs.Answer.{Answer}
 use Rattle.sky_vectors.specs.declared.geocentric.Body.{Body}
 use Rattle.sky_vectors.specs.declared.geocentric.Body.the-variants.{Moon, Sun}
@@ -24,16 +24,16 @@ use Rattle.strip.proofs.AzimuthLaws.{count-in}
 use Rattle.strip.proofs.CheckLaws.{Passes, azimuth-small, header-passes}
 use Rattle.strip.specs.Air.{air-in, is-none, written-air}
 use Rattle.strip.specs.Checks.{are-azimuths, header-refusals, is-azimuth, steps}
-use Rattle.strip.specs.Format.{Strip, air-byte, azimuth-part, azimuth-size, azimuths-in, body-byte, body-in, encode, fields, header-follows, header-in, header-numbers, header-size, header-widths, strip-in, strip-of, version}
+use Rattle.strip.specs.Format.{Strip, air-byte, azimuth-part, azimuth-size, azimuths-in, body-byte, body-in, encode, fields, header-follows, header-in, header-numbers, header-size, header-widths, strip-in, strip-of, strip-size, version}
 use Rattle.strip.specs.declared.air.StripAir.{StripAir}
 use Rattle.strip.specs.declared.air.StripAir.the-variants.{CarriedOver, Measured, None}
 use Rattle.strip.specs.declared.header.Header.{Header}
-use Rattle.strip_reader.proofs.ReadLaws.{header-there, length-test, stated-is}
+use Rattle.strip_reader.proofs.ReadLaws.{decoded-refusal, decoded-value, header-there, length-test, stated-is}
 use Rattle.strip_reader.specs.Reading.{are-codes, azimuth-at, azimuth-of, decode, length-agrees, no-header, no-strip, read, read-refusals, stated, step-refusals}
 use Rattle.text.proofs.LineLaws.{first-of, second-of}
 use Rattle.text.specs.Line.{all}
 use Rattle.strip_writer.specs.RoundTrip.{CarriedOverRefused, EveryAzimuthRead, HeaderRead, NeverOne, OctetsAgain, StripAgain}
-use Rattle.strip_writer.specs.Writing.{strip-refusals}
+use Rattle.strip_writer.specs.Writing.{strip-refusals, write}
 use Rattle.strip_writer.proofs.WriteLaws.{air-none, azimuths-good, count-is, few, head, head-length, header-none, header-size-is, size-again, tail}
 
 -- ---- the octets of air and body
@@ -160,9 +160,10 @@ module _ (strip : Strip) (e : first (strip-refusals strip) ≡ 0) where
 pub strip-again : StripAgain
 strip-again strip e = decoded strip e
 
+-- the air octet stands in its place whatever the other numbers are
 pub never-one : NeverOne
-unfolding header-numbers
-never-one strip e = ap (λ (list : List ℕ). getD list 2 0) (fields-back strip e)
+unfolding encode joined header-numbers big-endian fields parted number-after
+never-one strip = refl
 
 -- ---- octets that were read
 module _ (octets : List ℕ) (e : first (read-refusals octets) ≡ 0) where
@@ -241,20 +242,16 @@ module _ (octets : List ℕ) (e : first (read-refusals octets) ≡ 0) where
   unfolding header-in
   refused-by-air one = by-air-alone ∙ ap (λ (byte : ℕ). 32 unless is-none (air-in byte)) one
 
-  -- every octet belongs to a field, where the air octet is not 1
-  module _ (small : all is-octet octets ≡ true) (not-one : air-byte octets ≡ 1 → ⊥) where
-    air-zero : air-byte octets ≡ written-air
-    air-zero = by-cases (air-byte octets) refl
-      where
-        by-cases : (byte : ℕ) → air-byte octets ≡ byte → byte ≡ written-air
-        by-cases zero is = refl
-        by-cases (suc zero) is = absurd (not-one is)
-        by-cases (suc (suc byte)) is = absurd (omega (arith, air-small))
+  -- where the air octet is not 1 the air is none
+  air-zero : (air-byte octets ≡ 1 → ⊥) → air-byte octets ≡ written-air
+  air-zero not-one = omega (arith, air-small, not-one)
 
-    writable : first (strip-refusals said) ≡ 0
-    unfolding header-in
-    writable = by-air-alone ∙ ap (λ (byte : ℕ). 32 unless is-none (air-in byte)) air-zero
+  writable : (air-byte octets ≡ 1 → ⊥) → first (strip-refusals said) ≡ 0
+  unfolding header-in
+  writable not-one = by-air-alone ∙ ap (λ (byte : ℕ). 32 unless is-none (air-in byte)) (air-zero not-one)
 
+  -- every octet belongs to a field
+  module _ (small : all is-octet octets ≡ true) where
     abbrev front : List ℕ
     front = take header-size octets
 
@@ -269,11 +266,11 @@ module _ (octets : List ℕ) (e : first (read-refusals octets) ≡ 0) where
     found-fit : fit header-widths found ≡ true
     found-fit = ap (fit header-widths) found-is ∙ parted-fit header-widths front front-length (taken-octets header-size octets small)
 
-    numbers-same : header-numbers (said .header) read-count ≡ found
+    numbers-same : (air-byte octets ≡ 1 → ⊥) → header-numbers (said .header) read-count ≡ found
     unfolding header-numbers header-in fields parted
-    numbers-same i =
+    numbers-same not-one i =
         first-same i ∷ sym version-is i
-        ∷ sym air-zero i
+        ∷ sym (air-zero not-one) i
         ∷ byte-of-body (getD found 3 0) read-body-small i
         ∷ getD found 4 0 ∷ getD found 5 0 ∷ getD found 6 0
         ∷ complement-again 4 (getD found 7 0) (fit-at header-widths found found-fit 7 (omega arith)) i
@@ -283,9 +280,9 @@ module _ (octets : List ℕ) (e : first (read-refusals octets) ≡ 0) where
         first-same : header-follows + azimuth-size * read-count ≡ getD found 0 0
         first-same = let n = steps (said .header .step) in omega (arith, read-count-is, stated-wanted)
 
-    front-back : joined header-widths (header-numbers (said .header) read-count) ≡ front
-    front-back =
-        ap (joined header-widths) (numbers-same ∙ found-is) ∙ joined-again header-widths front front-length (taken-octets header-size octets small)
+    front-back : (air-byte octets ≡ 1 → ⊥) → joined header-widths (header-numbers (said .header) read-count) ≡ front
+    front-back not-one =
+        ap (joined header-widths) (numbers-same not-one ∙ found-is) ∙ joined-again header-widths front front-length (taken-octets header-size octets small)
 
     part-same : joined (alike read-count azimuth-size) (said .azimuths) ≡ part
     unfolding azimuths-in
@@ -297,19 +294,9 @@ module _ (octets : List ℕ) (e : first (read-refusals octets) ≡ 0) where
         whole : azimuth-size * (length part / azimuth-size) ≡ length part
         whole = let n = steps (said .header .step) in omega (arith, part-length)
 
-    octets-same : encode said ≡ octets
+    octets-same : (air-byte octets ≡ 1 → ⊥) → encode said ≡ octets
     unfolding encode
-    octets-same = ap₂ _++_ front-back part-same ∙ take-append-drop header-size octets
-
--- an answer of the reader's is what the octets say
-module _ (octets : List ℕ) (e : decode octets .refusal ≡ 0) where
-  accepted : first (read-refusals octets) ≡ 0
-  unfolding decode
-  accepted = sym (judged-refusal (first (read-refusals octets)) no-strip (strip-in octets)) ∙ e
-
-  value-is : decode octets .value ≡ strip-in octets
-  unfolding decode
-  value-is = sym (ap (λ (a : Answer Strip). a .value) (answered-with no-strip (strip-in octets) accepted refl))
+    octets-same not-one = ap₂ _++_ (front-back not-one) part-same ∙ take-append-drop header-size octets
 
 pub header-read : HeaderRead
 unfolding read decode
@@ -325,17 +312,22 @@ header-read octets = by-test (eqb (first (read-refusals octets)) 0)
 
 pub octets-again : OctetsAgain
 octets-again octets small e not-one =
-    let passes = accepted octets e in
-    let same = value-is octets e in
-    (ap (λ (s : Strip). first (strip-refusals s)) same ∙ writable octets passes small not-one, ap encode same ∙ octets-same octets passes small not-one)
+    let passes = sym (decoded-refusal octets) ∙ e in
+    let same = decoded-value octets e in
+    (ap (λ (s : Strip). first (strip-refusals s)) same ∙ writable octets passes not-one, ap encode same ∙ octets-same octets passes small not-one)
 
 pub carried-over-refused : CarriedOverRefused
-carried-over-refused octets e one = ap (λ (s : Strip). first (strip-refusals s)) (value-is octets e) ∙ refused-by-air octets (accepted octets e) one
+unfolding write
+carried-over-refused octets room e one =
+    let size = strip-size (length (strip-in octets .azimuths)) in
+    let by-air = refused-by-air octets (sym (decoded-refusal octets) ∙ e) one in
+    let is = refused-first (strip-refusals (strip-in octets)) (28 unless leb size room ∷ []) by-air (λ none. omega (arith, none)) in
+    ap (λ (s : Strip). write s room) (decoded-value octets e) ∙ sym (refused-with 0 size is (λ none. omega (arith, none)))
 
 pub every-azimuth-read : EveryAzimuthRead
 unfolding azimuth-at
 every-azimuth-read octets e step h =
-    let same = value-is octets e in
+    let same = decoded-value octets e in
     let part = azimuth-part octets in
     let within : step < length part / azimuth-size = omega (arith, h, ap (λ (s : Strip). length (s .azimuths)) same, count-in part) in
     simp (lt-ltb step (length part / azimuth-size) within) (ap (λ (s : Strip). azimuth-of (getD (s .azimuths) step 0)) (sym same))

@@ -9,7 +9,7 @@ use Rattle.octets.specs.Octets.{is-octet}
 use Rattle.strip.specs.Format.{Strip, air-byte, azimuth-part, encode, strip-size}
 use Rattle.strip_reader.specs.Reading.{azimuth-at, azimuth-of, decode, read}
 use Rattle.text.specs.Line.{all}
-use Rattle.strip_writer.specs.Writing.{strip-refusals}
+use Rattle.strip_writer.specs.Writing.{strip-refusals, write}
 
 -- a strip that the writer's checks pass is read as the same strip
 abbrev pub StripAgain : Type 0
@@ -21,13 +21,14 @@ OctetsAgain =
     (octets : List ℕ) → all is-octet octets ≡ true → decode octets .refusal ≡ 0 → (air-byte octets ≡ 1 → ⊥)
     → (first (strip-refusals (decode octets .value)) ≡ 0) × (encode (decode octets .value) ≡ octets)
 
--- with air byte 1 they are a strip that the writer refuses, by 32 alone
+-- with air byte 1 they are a strip that the writer refuses by 32, whatever room there is
 abbrev pub CarriedOverRefused : Type 0
-CarriedOverRefused = (octets : List ℕ) → decode octets .refusal ≡ 0 → air-byte octets ≡ 1 → first (strip-refusals (decode octets .value)) ≡ 32
+CarriedOverRefused =
+    (octets : List ℕ) (room : ℕ) → decode octets .refusal ≡ 0 → air-byte octets ≡ 1 → write (decode octets .value) room ≡ record { refusal = 32; value = 0 }
 
 -- the writer never writes 1
 abbrev pub NeverOne : Type 0
-NeverOne = (strip : Strip) → first (strip-refusals strip) ≡ 0 → air-byte (encode strip) ≡ 0
+NeverOne = (strip : Strip) → air-byte (encode strip) ≡ 0
 
 -- what the reader answers is the header of what the octets say, with the same refusal
 abbrev pub HeaderRead : Type 0

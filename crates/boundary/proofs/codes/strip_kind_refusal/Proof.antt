@@ -1,5 +1,4 @@
 -- `boundary::codes::strip_kind_refusal` meets its contract.
-use mathlib.Core.Path.{_∙_}
 use borrow.Author.Needs.{needs}
 use borrow.Author.Tests.{eq-eqb, ne-eqb}
 use Rattle.boundary.proofs.codes.strip_kind_refusal.Statement.{statement}
