@@ -15,6 +15,9 @@
  * Since version 4 every time is in milliseconds; it was in tenths of a second before, so that a number which is not multiplied by 100 is wrong. Each type that is filled with
  * such numbers, each field, and each function that is handed a bare one has another name for it, which ends in _ms: what was written for version 3 does not compile.
  *
+ * Since version 5 there is no standard air: the air of a request is none or measured, and old strips in standard air are read as measured at 1010 mbar and 10 degrees
+ * Celsius, with a mark that this was carried over. What named standard air, or read the air of a strip, does not compile.
+ *
  * What is asked of the caller: a pointer points to as many numbers as its type or its length says, aligned as C aligns them; memories that are written do not
  * overlap others of the same call; about 8 KiB of stack (docs/FIGURES.md has the exact numbers), and beside it the caller's own: for a day 11.5 KB for the curve,
  * for a strip of every minute 5,760 bytes for the azimuths and 5,778 for the strip; and, for the doubles of the shown place and of the refraction, the usual state
@@ -38,8 +41,8 @@ extern "C" {
 #endif
 
 /* The version of this header and of the archive beside it. The first number changes when old code must not compile. */
-#define RADDLEHUE_VERSION "4.0.0"
-#define RADDLEHUE_VERSION_MAJOR 4
+#define RADDLEHUE_VERSION "5.0.0"
+#define RADDLEHUE_VERSION_MAJOR 5
 #define RADDLEHUE_VERSION_MINOR 0
 #define RADDLEHUE_VERSION_PATCH 0
 
@@ -84,6 +87,7 @@ enum {
     RADDLEHUE_PROPOSAL_POINTS = 29,
     RADDLEHUE_PROPOSAL_OPPOSITE = 30,
     RADDLEHUE_PROPOSAL_OUT = 31,
+    RADDLEHUE_STRIP_MEASURED_AIR = 32,
     RADDLEHUE_UNKNOWN_BODY = 101,
     RADDLEHUE_UNKNOWN_AIR = 102,
     RADDLEHUE_NO_ELEVATION = 103,
@@ -116,7 +120,7 @@ RADDLEHUE_INLINE const char *raddlehue_refusal_text(uint32_t refusal)
     case RADDLEHUE_NOT_A_LINE: return "the line is not whole numbers with single spaces";
     case RADDLEHUE_STRIP_LENGTH: return "the strip's length does not agree with its bytes, with its step or with the number of azimuths";
     case RADDLEHUE_STRIP_VERSION: return "the strip is not of version 1";
-    case RADDLEHUE_STRIP_AIR_OR_BODY: return "the strip's air is neither none nor standard, or its body neither Sun nor Moon";
+    case RADDLEHUE_STRIP_AIR_OR_BODY: return "the strip's air byte is not 0 or 1, or its body byte not 0 or 1";
     case RADDLEHUE_STRIP_DATE: return "the strip's date is not one of 1900 to 2100 in the Gregorian calendar";
     case RADDLEHUE_STRIP_POINT: return "the strip's longitude is not within 180 degrees, or its latitude not within 90";
     case RADDLEHUE_STRIP_STEP: return "the step is not 1, 2, 5 or 10 minutes";
@@ -126,8 +130,9 @@ RADDLEHUE_INLINE const char *raddlehue_refusal_text(uint32_t refusal)
     case RADDLEHUE_PROPOSAL_POINTS: return "the turning points are not 2 to 1,440 minutes that rise from 0 to 1439, each with an azimuth from 0 up to but not 360 degrees";
     case RADDLEHUE_PROPOSAL_OPPOSITE: return "two neighbouring turning points lie exactly half a turn apart";
     case RADDLEHUE_PROPOSAL_OUT: return "a minute of the proposal is out of tolerance";
+    case RADDLEHUE_STRIP_MEASURED_AIR: return "a strip in measured air is not written, whether it was carried over or not";
     case RADDLEHUE_UNKNOWN_BODY: return "the body is neither Sun nor Moon";
-    case RADDLEHUE_UNKNOWN_AIR: return "the air is none of none, standard and measured";
+    case RADDLEHUE_UNKNOWN_AIR: return "the air is neither none nor measured";
     case RADDLEHUE_NO_ELEVATION: return "the elevation is not within 90 degrees";
     case RADDLEHUE_OUT_OF_REACH: return "the instant is not within 3,190,473,360,000 milliseconds of 2000-01-01 12:00";
     case RADDLEHUE_NO_DISKS: return "the separation is not 0 to 180 degrees, the Sun's radius not 0.2 to 0.3 or the Moon's not 0 to 0.3";
@@ -140,8 +145,8 @@ RADDLEHUE_INLINE const char *raddlehue_refusal_text(uint32_t refusal)
 /* The body of a request: its centre. */
 enum { RADDLEHUE_SUN = 0, RADDLEHUE_MOON = 1 };
 
-/* The air of a request. Standard means measured at 1010 mbar and 10 degrees Celsius. */
-enum { RADDLEHUE_AIR_NONE = 0, RADDLEHUE_AIR_STANDARD = 1, RADDLEHUE_AIR_MEASURED = 2 };
+/* The air of a request: none, or measured. (1 was standard air before version 5; it is an unknown kind, which is refused by 102.) */
+enum { RADDLEHUE_AIR_NONE = 0, RADDLEHUE_AIR_MEASURED = 2 };
 
 /* A moment of UTC. */
 typedef struct {
@@ -165,7 +170,7 @@ typedef struct {
 
 /* The air, as the inline functions take it. */
 typedef struct {
-    uint32_t kind;              /* RADDLEHUE_AIR_.. */
+    uint32_t kind;              /* RADDLEHUE_AIR_NONE or RADDLEHUE_AIR_MEASURED */
     double pressure_mbar;       /* read only where measured, 0 to 1200 */
     double temperature_celsius; /* read only where measured, -80 to 80 */
 } raddlehue_air_t;
@@ -339,9 +344,9 @@ RADDLEHUE_INLINE raddlehue_day_answer_t raddlehue_day_of(
 /* ---- day strips: a day's azimuths as bytes, to and from the phone */
 
 /* A strip is a header and an azimuth for each step of a UTC date, all numbers big-endian: the length of all that follows (2 bytes), version 1 (1), air (1: 0
- * none, 1 standard), body (1: 0 Sun, 1 Moon), year (2), month (1), day (1), longitude and latitude (4 each, two's complement), step in minutes (1: 1, 2, 5 or
+ * none; 1 in old strips), body (1: 0 Sun, 1 Moon), year (2), month (1), day (1), longitude and latitude (4 each, two's complement), step in minutes (1: 1, 2, 5 or
  * 10), then the azimuths from minute 0 on (4 each), in 1e-7 degree from north over east, rounded down, 0 to 3,599,999,999, or RADDLEHUE_NO_AZIMUTH_E7 where there
- * is none. Reading what was written gives the same strip, and writing what was read gives the same bytes. */
+ * is none. Reading what was written gives the same strip, and writing what was read gives the same bytes, but for old strips: air byte 1 is read, and never written. */
 
 /* Bytes of the header, which stand before the azimuths. */
 #define RADDLEHUE_STRIP_HEADER 18
@@ -353,9 +358,12 @@ RADDLEHUE_INLINE raddlehue_day_answer_t raddlehue_day_of(
 /* An absent azimuth of a strip. It is no angle from 0 up to 360 degrees. */
 #define RADDLEHUE_NO_AZIMUTH_E7 4294967295u
 
+/* The kind of a strip's air where it was carried over from an old strip, whose air byte is 1: measured air, with this mark. No request has it. */
+enum { RADDLEHUE_AIR_CARRIED_OVER = 3 };
+
 /* What a strip says beside its azimuths. */
 typedef struct {
-    int64_t air;          /* RADDLEHUE_AIR_NONE or RADDLEHUE_AIR_STANDARD; measured air is refused by 22 */
+    int64_t air_kind;     /* RADDLEHUE_AIR_NONE, or RADDLEHUE_AIR_CARRIED_OVER where an old strip was read; measured air, carried over or not, is not written */
     int64_t body;         /* RADDLEHUE_SUN or RADDLEHUE_MOON */
     int64_t year;         /* 1900 to 2100, of a UTC date */
     int64_t month;        /* 1 to 12 */
@@ -385,8 +393,8 @@ RADDLEHUE_INLINE raddlehue_day_azimuths_answer_t raddlehue_day_azimuths_of(
     return answer;
 }
 
-/* Writes a strip from its start on: bytes behind it are left alone. `written` is how many bytes it has. Refused: 101, 102, then 22 for measured air, 23 to 25, 20
- * for another number of azimuths than the step has, 26, and 28 for a buffer that is too small. */
+/* Writes a strip from its start on: bytes behind it are left alone. `written` is how many bytes it has. Refused: 101, 102, then 23 to 25, 20 for another number
+ * of azimuths than the step has, 26, 32 for measured air, carried over or not, and 28 for a buffer that is too small. */
 uint32_t raddlehue_strip_write(
     const raddlehue_strip_t *strip, const uint32_t *azimuths_e7, uint64_t azimuths_length,
     uint8_t *bytes, uint64_t bytes_length, uint64_t *written);
@@ -405,22 +413,55 @@ RADDLEHUE_INLINE raddlehue_strip_write_answer_t raddlehue_strip_write_of(
     return answer;
 }
 
-/* What the header of a strip says. The bytes are the whole strip: its azimuths are judged too, and left where they are. The length is judged twice, first against
- * the bytes (and 16, the least), then against the step. Refused: 20, 21 to 25, 20 against the step, and 26. */
-uint32_t raddlehue_strip_read(const uint8_t *bytes, uint64_t bytes_length, raddlehue_strip_t *strip);
+/* What a strip's air was measured at: 1010 mbar and 10 degrees Celsius where it was carried over, zeros where there is none. */
+typedef struct {
+    double pressure_mbar;
+    double temperature_celsius;
+} raddlehue_strip_measured_t;
+
+/* What the header of a strip says, and what its air was measured at. The bytes are the whole strip: its azimuths are judged too, and left where they are. The length is
+ * judged twice, first against the bytes (and 16, the least), then against the step. Refused: 20, 21 to 25, 20 against the step, and 26. */
+uint32_t raddlehue_strip_read(const uint8_t *bytes, uint64_t bytes_length, raddlehue_strip_t *strip, raddlehue_strip_measured_t *measured);
+
+/* The air of a strip, with the mark that it was carried over in its kind. It is another type than a request's air, so that the mark is not lost unseen:
+ * raddlehue_request_air says where it is left behind. */
+typedef struct {
+    uint32_t kind;              /* RADDLEHUE_AIR_NONE or RADDLEHUE_AIR_CARRIED_OVER */
+    double pressure_mbar;       /* where carried over 1010 */
+    double temperature_celsius; /* where carried over 10 */
+} raddlehue_strip_air_t;
 
 typedef struct {
     uint32_t refusal;
     raddlehue_strip_t strip;
+    raddlehue_strip_air_t air;
 } raddlehue_strip_read_answer_t;
 
 RADDLEHUE_INLINE raddlehue_strip_read_answer_t raddlehue_strip_read_of(const uint8_t *bytes, uint64_t bytes_length)
 {
     raddlehue_strip_t strip = {0, 0, 0, 0, 0, 0, 0, 0};
+    raddlehue_strip_measured_t measured = {0.0, 0.0};
     raddlehue_strip_read_answer_t answer;
-    answer.refusal = raddlehue_strip_read(bytes, bytes_length, &strip);
+    answer.refusal = raddlehue_strip_read(bytes, bytes_length, &strip, &measured);
     answer.strip = strip;
+    answer.air.kind = (uint32_t)strip.air_kind;
+    answer.air.pressure_mbar = measured.pressure_mbar;
+    answer.air.temperature_celsius = measured.temperature_celsius;
     return answer;
+}
+
+/* The air of a request at the place of a strip: none, or measured at the same pressure and temperature. Where it was carried over the shown place has the bits that
+ * it had in standard air. */
+RADDLEHUE_INLINE raddlehue_air_t raddlehue_request_air(raddlehue_strip_air_t air)
+{
+    raddlehue_air_t request;
+    request.kind = air.kind;
+    if (air.kind == RADDLEHUE_AIR_CARRIED_OVER) {
+        request.kind = RADDLEHUE_AIR_MEASURED;
+    }
+    request.pressure_mbar = air.pressure_mbar;
+    request.temperature_celsius = air.temperature_celsius;
+    return request;
 }
 
 /* The azimuth of a step, counted from 0, in the azimuth bytes of a strip: those behind its header, or the part that raddlehue_strip_find hands back.

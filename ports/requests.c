@@ -125,7 +125,7 @@ static void end_line(void) {
 
 #define POISON 0x5a5a5a5a5a5a5a5aull
 
-enum { SIDE = 2, ROOM = 8 };
+enum { SIDE = 2, ROOM = 10 };
 
 static uint64_t lent[SIDE + ROOM + SIDE];
 
@@ -317,9 +317,11 @@ static void show_strip_write(const int64_t n[8], uint64_t count, drawn_t drawn, 
     show_lent(refusal, 1), show_long(written, 1, STRIP_ROOM), end_line();
 }
 
+/* The two doubles of its air are lent behind a strip's eight numbers. */
 static void show_strip_read(const strip_t *strip) {
+    void *header = lend(), *measured = &lent[SIDE + 8];
     name("strip_read"), show_strip(strip);
-    show_lent(raddlehue_strip_read(put_strip(strips[0], strip), strip->length, lend()), 8), end_line();
+    show_lent(raddlehue_strip_read(put_strip(strips[0], strip), strip->length, header, measured), 10), end_line();
 }
 
 /* The azimuth takes the lower half of its word: the upper stays poisoned. */
@@ -445,6 +447,14 @@ static uint32_t code(uint32_t known) {
     return below(16) ? any % known : any >> below(32);
 }
 
+/* None, measured, or now and then any: 1 was standard air, and 3 is of strips alone. */
+static uint32_t random_kind(void) {
+    if (below(8) == 0) {
+        return code(5);
+    }
+    return below(3) ? RADDLEHUE_AIR_MEASURED : RADDLEHUE_AIR_NONE;
+}
+
 /* Offsets reach 49.7 days: one batch in four starts so near the end of all that they may pass it. */
 static void random_batch(const int64_t n[12], uint32_t body) {
     int64_t late[12];
@@ -515,7 +525,7 @@ static void random_day_azimuths(const int64_t n[12], uint32_t body, int whole, i
 static const range_t STRIP_FIELDS[8] = {
     {0, 1}, {0, 1}, {1900, 2100}, {1, 12}, {1, 28}, {-1800000000, 1800000000}, {-900000000, 900000000}, {1, 10}};
 
-/* What a strip says, all of it good. */
+/* What a strip says, all of it good; its air is the byte that is read, 0 or 1. */
 static void random_header(int64_t n[8]) {
     for (int i = 0; i < 7; i++) {
         n[i] = field(STRIP_FIELDS[i].lo, STRIP_FIELDS[i].hi);
@@ -533,11 +543,11 @@ static drawn_t random_azimuths(uint64_t count, int good) {
     return drawn;
 }
 
-/* Measured air, a step that is none, or any number outside its range. */
+/* An air that is not written, or is none of a strip's; a step that is none; or any number outside its range. */
 static void damage_header(int64_t n[8]) {
     uint64_t i = below(8);
     switch (below(4)) {
-    case 0: n[0] = RADDLEHUE_AIR_MEASURED; break;
+    case 0: n[0] = between(1, 4); break;
     case 1: n[7] = between(0, 11); break;
     default: n[i] = outside(STRIP_FIELDS[i].lo, STRIP_FIELDS[i].hi);
     }
@@ -546,7 +556,7 @@ static void damage_header(int64_t n[8]) {
 static void random_strip_write(void) {
     int64_t n[8];
     uint64_t count, length;
-    random_header(n);
+    random_header(n), n[0] = RADDLEHUE_AIR_NONE;
     count = (uint64_t)RADDLEHUE_STRIP_STEPS(n[7]);
     count = below(8) ? count : below(MINUTES + 1);
     length = RADDLEHUE_STRIP_HEADER + 4 * count;
@@ -557,8 +567,8 @@ static void random_strip_write(void) {
     show_strip_write(n, count, random_azimuths(count, below(2) != 0), length);
 }
 
-/* A strip of such a header, good but, now and then, for an azimuth. */
-static strip_t random_strip(const int64_t n[8]) {
+/* A strip of such a header. */
+static strip_t strip_of(const int64_t n[8], drawn_t drawn) {
     static const int WIDTHS[10] = {2, 1, 1, 1, 2, 1, 1, 4, 4, 1};
     const uint64_t length = (uint64_t)RADDLEHUE_STRIP_BYTES(n[7]);
     const int64_t fields[10] = {(int64_t)length - 2, 1, n[0], n[1], n[2], n[3], n[4], n[5], n[6], n[7]};
@@ -570,9 +580,12 @@ static strip_t random_strip(const int64_t n[8]) {
         }
     }
     strip.length = length;
-    strip.drawn = random_azimuths((uint64_t)RADDLEHUE_STRIP_STEPS(n[7]), below(8) != 0);
+    strip.drawn = drawn;
     return strip;
 }
+
+/* Good but, now and then, for an azimuth. */
+static strip_t random_strip(const int64_t n[8]) { return strip_of(n, random_azimuths((uint64_t)RADDLEHUE_STRIP_STEPS(n[7]), below(8) != 0)); }
 
 /* Cut or lengthened, with the length in its header or without; or another byte of its header. */
 static void damage_strip(strip_t *strip) {
@@ -758,7 +771,7 @@ void run_random(uint32_t count, uint64_t s) {
     for (uint32_t i = 0; i < count; i++) {
         int64_t n[12], x, y;
         air_t air;
-        air.kind = code(3);
+        air.kind = random_kind();
         air.pressure = random_bits(0, 1200);
         air.temperature = random_bits(-80, 80);
         random_request(n);
@@ -787,6 +800,51 @@ void run_random(uint32_t count, uint64_t s) {
         x = (int64_t)next(), y = (int64_t)next();
         x >>= below(64), y >>= below(64);
         show_sines(x), show_arctangent(y, x), show_root((uint64_t)x);
+    }
+}
+
+/* ---- strips in every air */
+
+enum { FAULTS = 7 };
+
+/* A strip with an air of such a kind, and with something else that is refused, or, last, nothing. */
+static void write_in_air(int64_t kind, int fault, uint64_t length) {
+    int64_t n[8] = {kind, RADDLEHUE_MOON, 2003, 10, 17, -1051786000, 397424760, 10};
+    uint64_t count = RADDLEHUE_STRIP_STEPS(10);
+    drawn_t drawn = {7, 143, 3599999999u};
+    switch (fault) {
+    case 0: n[1] = 2; break;
+    case 1: n[3] = 13; break;
+    case 2: n[5] = 1800000001; break;
+    case 3: n[7] = 3; break;
+    case 4: count--; break;
+    case 5: drawn.azimuth = 3600000000u; break;
+    default: break;
+    }
+    show_strip_write(n, count, drawn, length);
+}
+
+/* A strip with such an air byte, its last azimuth good or not. */
+static void read_in_air(int64_t byte, int64_t step, uint32_t last) {
+    const int64_t n[8] = {byte, RADDLEHUE_SUN, 2003, 10, 17, -1051786000, 397424760, step};
+    const drawn_t drawn = {7, (uint32_t)RADDLEHUE_STRIP_STEPS(step) - 1, last};
+    const strip_t strip = strip_of(n, drawn);
+    show_strip_read(&strip);
+}
+
+/* Each kind, with each fault, into a buffer that is large enough, into one that lacks a byte and into none; and each byte, and two that no strip has, at each step. */
+void run_strips(void) {
+    static const uint64_t LENGTHS[3] = {RADDLEHUE_STRIP_BYTES(10), RADDLEHUE_STRIP_BYTES(10) - 1, 0};
+    for (int64_t kind = 0; kind <= 4; kind++) {
+        for (int i = 0; i < 3 * FAULTS; i++) {
+            write_in_air(kind, i / 3, LENGTHS[i % 3]);
+        }
+    }
+    for (int64_t byte = 0; byte <= 3; byte++) {
+        for (int i = 0; i < 4; i++) {
+            read_in_air(byte, STEPS[i], 3599999999u);
+            read_in_air(byte, STEPS[i], 3600000000u);
+        }
     }
 }
 
@@ -829,14 +887,25 @@ static uint64_t hexadecimal(void) {
     return x;
 }
 
+/* An old strip, whose air byte is 1; all its azimuths are 0. */
+static const uint8_t OLD_STRIP[RADDLEHUE_STRIP_BYTES(10)] = {
+    0x02, 0x50, 1, 1, 0, 0x07, 0xd3, 10, 17, 0xc1, 0x4f, 0x04, 0xf0, 0x17, 0xb0, 0x38, 0x78, 10};
+
+/* Air that was carried over is what such a strip is read with, as a request has it. */
+static air_t carried_over(void) {
+    const raddlehue_air_t request = raddlehue_request_air(raddlehue_strip_read_of(OLD_STRIP, sizeof OLD_STRIP).air);
+    const air_t air = {request.kind, bits_of(request.pressure_mbar), bits_of(request.temperature_celsius)};
+    return air;
+}
+
 static air_t air_word(void) {
     air_t air = {RADDLEHUE_AIR_NONE, 0, 0};
     if (is_kind(rest, "measured")) {
         air.kind = RADDLEHUE_AIR_MEASURED;
         air.pressure = hexadecimal();
         air.temperature = hexadecimal();
-    } else if (*rest == 's') {
-        air.kind = RADDLEHUE_AIR_STANDARD;
+    } else if (*rest == 'c') {
+        air = carried_over();
     }
     return air;
 }

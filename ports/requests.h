@@ -10,6 +10,7 @@ void seed(uint64_t s);
 void random_request(int64_t n[12]);
 void near_eclipse(int64_t n[12]);
 void run_random(uint32_t count, uint64_t s);
+void run_strips(void);
 void run_vectors(const char *const *lines);
 
 /* The vectors' left halves (ports/vectors makes them from tests/vectors); a null pointer ends the list. */

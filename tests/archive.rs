@@ -57,7 +57,7 @@ extern "C" {
         bytes_length: u64,
         written: *mut u64,
     ) -> u32;
-    pub fn raddlehue_strip_read(bytes: *const u8, bytes_length: u64, strip: *mut [i64; 8]) -> u32;
+    pub fn raddlehue_strip_read(bytes: *const u8, bytes_length: u64, strip: *mut [i64; 8], measured: *mut [f64; 2]) -> u32;
     pub fn raddlehue_strip_azimuth(azimuths: *const u8, azimuths_length: u64, step: u64, azimuth: *mut u32) -> u32;
     pub fn raddlehue_strip_find(
         first: *const u8,
@@ -123,10 +123,20 @@ pub const THRESHOLD: i64 = -83_330_000;
 pub const LOWEST_REFRACTED: i64 = -83_337_000;
 
 pub const NO_AIR: Air = Air { kind: 0, pressure: 0.0, temperature: 0.0 };
-pub const STANDARD: Air = Air { kind: 1, ..NO_AIR };
 
 pub const fn measured(pressure: f64, temperature: f64) -> Air {
     Air { kind: 2, pressure, temperature }
+}
+
+// The kind of a strip's air that was carried over.
+pub const CARRIED_OVER: i64 = 3;
+
+// A request's air in a strip with air byte 1, from what the archive reads of one.
+pub fn carried_over() -> Air {
+    let header = [0x02, 0x50, 1, 1, 0, 7, 211, 10, 17, 0, 0, 0, 0, 0, 0, 0, 0, 10];
+    let (refusal, [kind, .., pressure, temperature]) = strip_read(&[&header[..], &[0; 576]].concat());
+    assert_eq!((refusal, kind), (0, CARRIED_OVER));
+    measured(f64::from_bits(pressure as u64), f64::from_bits(temperature as u64))
 }
 
 // What stands in a strip's azimuths where there is none.
@@ -291,8 +301,18 @@ pub fn day_azimuths(numbers: &[i64; 8], body: u32, step: i64, azimuths: &mut [u3
     lent(POISON, |at| unsafe { raddlehue_day_azimuths(date, body, point, step, first, length, at.cast()) })
 }
 
-// A strip's header: air, body, year, month, day, longitude, latitude, step.
+// A strip's header: the kind of its air, body, year, month, day, longitude, latitude, step.
 pub type Header = [i64; 8];
+
+// What is read of a strip: its header, and the bits of the pressure and the temperature of its air.
+pub type HeaderRead = [i64; 10];
+
+// What is read where the header is this one.
+pub fn as_read(header: &Header) -> HeaderRead {
+    let [pressure, temperature]: [f64; 2] = if header[0] == CARRIED_OVER { [1010.0, 10.0] } else { [0.0, 0.0] };
+    let [air, body, year, month, day, longitude, latitude, step] = *header;
+    [air, body, year, month, day, longitude, latitude, step, pressure.to_bits() as i64, temperature.to_bits() as i64]
+}
 
 // How many bytes of a strip were written.
 pub fn strip_write(strip: &Header, azimuths: &[u32], bytes: &mut [u8]) -> Answer<i64> {
@@ -301,9 +321,9 @@ pub fn strip_write(strip: &Header, azimuths: &[u32], bytes: &mut [u8]) -> Answer
     lent(POISON, |at| unsafe { raddlehue_strip_write(strip, azimuth, azimuths_length, first, length, at.cast()) })
 }
 
-pub fn strip_read(bytes: &[u8]) -> Answer<Header> {
+pub fn strip_read(bytes: &[u8]) -> Answer<HeaderRead> {
     let (first, length) = handed(bytes);
-    poisoned(|at| unsafe { raddlehue_strip_read(first, length, at) })
+    poisoned(|at: *mut HeaderRead| unsafe { raddlehue_strip_read(first, length, at.cast(), at.cast::<Header>().add(1).cast()) })
 }
 
 pub fn strip_azimuth(azimuths: &[u8], step: u64) -> Answer<u32> {

@@ -21,8 +21,9 @@ pub struct Tally {
     days: [u64; 256],
     // of the reads that were refused by 20, those at once and those against the step
     lengths: [u64; 2],
-    // of the strips that were read, those of each step
+    // of the strips that were read, those of each step, without air and with air that was carried over
     steps: [u64; 4],
+    carried_over: [u64; 4],
     // of the lookups, those that found the first strip, where both bear the date or only it does, and the second
     found: [u64; 3],
     // absent azimuths, at the first step, at one between and at the last; and in a day
@@ -37,19 +38,22 @@ pub const NO_TALLY: Tally = Tally {
     days: [0; 256],
     lengths: [0; 2],
     steps: [0; 4],
+    carried_over: [0; 4],
     found: [0; 3],
     absent: [0; 4],
 };
 
-// One strip with all that is done to it: DAMAGED + 1 strips are read. Days cost a place for each step, so that few are accepted.
+// One strip with all that is done to it: DAMAGED + 2 strips are read. Days cost a place for each step, so that few are accepted.
 pub fn draw(random: &mut Random, turn: u64, seen: &mut Tally) {
     let header = header(random);
     let azimuths = azimuths(random, steps(header[7]));
     let exact = (strip_bytes(header[7]), random.next() as u8);
     let Some(bytes) = write_of(&header, &azimuths, exact, seen) else { panic!("{header:?} is refused") };
     read_of(&bytes, seen);
+    read_of(&old(&bytes), seen);
     for _ in 0..DAMAGED {
-        read_of(&damaged(random, &bytes), seen);
+        let strip = maybe_old(random, &bytes);
+        read_of(&damaged(random, &strip), seen);
     }
     let buffer = (size(random, bytes.len()), random.next() as u8);
     write_of(&damaged_header(random, &header), &damaged_azimuths(random, &azimuths), buffer, seen);
@@ -77,8 +81,9 @@ fn write_of(header: &Header, azimuths: &[u32], (size, fill): (usize, u8), seen: 
 }
 
 fn read_of(bytes: &[u8], seen: &mut Tally) {
-    let (refusal, header) = strip_read(bytes);
-    same("strip that is read", bytes, (refusal, header), reference_strips::strip_read(bytes), &mut seen.reads);
+    let (refusal, found) = strip_read(bytes);
+    same("strip that is read", bytes, (refusal, found), reference_strips::strip_read(bytes), &mut seen.reads);
+    let [header @ .., _, _] = found;
     match refusal {
         0 => again(bytes, &header, seen),
         20 => seen.lengths[usize::from(is_of_its_length(bytes))] += 1,
@@ -90,7 +95,7 @@ fn is_of_its_length(bytes: &[u8]) -> bool {
     bytes.len() >= HEADER_BYTES && usize::from(u16::from_be_bytes([bytes[0], bytes[1]])) == bytes.len() - 2
 }
 
-// What was read, written again: each azimuth by its step, and the same bytes of them.
+// What was read, written again: each azimuth by its step, and the same bytes of them. What was carried over is refused by 32, and is written without air.
 fn again(bytes: &[u8], header: &Header, seen: &mut Tally) {
     let part: Box<[u8]> = bytes[HEADER_BYTES..].into();
     let last = steps(header[7]) as u64 - 1;
@@ -103,9 +108,18 @@ fn again(bytes: &[u8], header: &Header, seen: &mut Tally) {
         };
         seen.absent[case] += 1;
     }
+    let step = STEPS.iter().position(|step| *step == header[7]).expect("a step");
     let written = write_of(header, &azimuths, (bytes.len(), !bytes[0]), seen);
-    assert_eq!(written.as_deref(), Some(bytes), "what was read is written otherwise");
-    seen.steps[STEPS.iter().position(|step| *step == header[7]).expect("a step")] += 1;
+    if header[0] == 0 {
+        assert_eq!(written.as_deref(), Some(bytes), "what was read is written otherwise");
+        seen.steps[step] += 1;
+    } else {
+        let mut bare = *header;
+        bare[0] = 0;
+        let without = write_of(&bare, &azimuths, (bytes.len(), !bytes[0]), seen).map(|bytes| old(&bytes));
+        assert_eq!((header[0], written, without.as_deref()), (CARRIED_OVER, None, Some(bytes)), "byte 1 is read otherwise");
+        seen.carried_over[step] += 1;
+    }
 }
 
 fn azimuth_of(part: &[u8], step: u64, seen: &mut Tally) -> u32 {
@@ -132,6 +146,11 @@ fn step_of(random: &mut Random, part: &[u8], seen: &mut Tally) {
 
 // ---- two strips
 
+// The strip, or the same with air byte 1.
+fn maybe_old(random: &mut Random, strip: &[u8]) -> Box<[u8]> {
+    if random.one_in(2) { old(strip) } else { strip.into() }
+}
+
 // A strip of that date, and else any.
 fn another(random: &mut Random, date: [i64; 3]) -> Box<[u8]> {
     let mut header = header(random);
@@ -139,7 +158,7 @@ fn another(random: &mut Random, date: [i64; 3]) -> Box<[u8]> {
     let azimuths = azimuths(random, steps(header[7]));
     let mut bytes: Box<[u8]> = vec![0; strip_bytes(header[7])].into();
     assert_eq!(reference_strips::strip_write(&header, &azimuths, &mut bytes).0, 0, "{header:?}");
-    bytes
+    maybe_old(random, &bytes)
 }
 
 // Of a strip and another, on another date or on its own, either of them damaged now and then. The date asked for is one of theirs, has only the same low bytes, or is
@@ -148,7 +167,7 @@ fn lookup_of(random: &mut Random, header: &Header, bytes: &[u8], seen: &mut Tall
     let [_, _, year, month, day, ..] = *header;
     let own = [year, month, day];
     let other = if random.one_in(4) { own } else { random_days::date(random) };
-    let mut pair = [bytes.into(), another(random, other)];
+    let mut pair = [maybe_old(random, bytes), another(random, other)];
     if random.one_in(2) {
         pair.reverse();
     }
@@ -231,9 +250,10 @@ pub fn summary(seen: &Tally) -> Vec<String> {
     vec![
         complete("strips that were read", &seen.reads, 20..=26),
         all_drawn("    refused by 20,", &["at once", "against the step"], &seen.lengths),
-        all_drawn("    accepted, of step", &["1:", "2:", "5:", "10:"], &seen.steps),
+        all_drawn("    accepted without air, of step", &["1:", "2:", "5:", "10:"], &seen.steps),
+        all_drawn("    accepted with air byte 1, of step", &["1:", "2:", "5:", "10:"], &seen.carried_over),
         all_drawn("    absent azimuths,", &["at the first step", "between", "at the last", "in a day"], &seen.absent),
-        complete("strips that were written", &seen.writes, [20, 22, 23, 24, 25, 26, 28, 101, 102]),
+        complete("strips that were written", &seen.writes, [20, 23, 24, 25, 26, 28, 32, 101, 102]),
         complete("azimuths of a step", &seen.azimuths, [26, 106]),
         complete("lookups", &seen.lookups, 20..=27),
         all_drawn("    found", &["the first, as both bear the date", "the first", "the second"], &seen.found),

@@ -78,10 +78,9 @@ fn request(random: &mut Random) -> Request {
     for _ in 0..damaged {
         damage(random, &mut numbers);
     }
-    let air = Air {
-        kind: code(random, 3),
-        pressure: double(random, 0.0, 1200.0),
-        temperature: double(random, -80.0, 80.0),
+    let air = match random.below(16) {
+        0 => carried_over(),
+        _ => Air { kind: kind(random), pressure: double(random, 0.0, 1200.0), temperature: double(random, -80.0, 80.0) },
     };
     Request { numbers, body: code(random, 2), air }
 }
@@ -99,6 +98,17 @@ fn code(random: &mut Random, known: u32) -> u32 {
         1 => u32::MAX,
         2 => (random.next() as u32).max(known),
         _ => random.below(u64::from(known)) as u32,
+    }
+}
+
+// None or measured, and now and then a kind that is neither: 1, which was standard, 3, which is a strip's alone, or any.
+fn kind(random: &mut Random) -> u32 {
+    match random.below(64) {
+        0 => 1,
+        1 => 3,
+        2 => u32::MAX,
+        3 => random.next() as u32 >> random.below(32),
+        _ => 2 * random.below(2) as u32,
     }
 }
 
@@ -120,7 +130,6 @@ impl Request {
 fn reference_air(air: Air) -> reference::Air {
     match air.kind {
         0 => reference::Air::None,
-        1 => reference::Air::Standard,
         _ => reference::Air::Measured(air.pressure, air.temperature),
     }
 }
@@ -131,7 +140,7 @@ fn body_refusal(body: u32) -> Result<(), u32> {
 }
 
 fn kind_refusal(kind: u32) -> Result<(), u32> {
-    if kind <= 2 { Ok(()) } else { Err(102) }
+    if kind == 0 || kind == 2 { Ok(()) } else { Err(102) }
 }
 
 fn answer_seen<T, const N: usize>(found: Result<(Option<T>, [i64; N]), u32>) -> Answer<Seen<N>> {

@@ -172,7 +172,7 @@ const STRIP_HEADER: usize = 18;
 // A strip of step 1, of another date for each call.
 fn strip_at(call: u64) -> reference::Strip {
     let ([year, month, day, ..], [longitude, latitude, _]) = (numbers(call), POINT);
-    reference::Strip { air: reference::Air::None, body: reference::Body::Sun, year, month, day, longitude, latitude, step: 1 }
+    reference::Strip { air: reference::StripAir::None, body: reference::Body::Sun, year, month, day, longitude, latitude, step: 1 }
 }
 
 // Azimuths once round the sky, and two strips of them, of two days.
@@ -220,8 +220,8 @@ fn strip_bytes(call: u64) -> &'static [u8; STRIP_BYTES] {
 }
 
 fn strip_read_of(call: u64) -> i64 {
-    let mut header = [0; 8];
-    unsafe { raddlehue_strip_read(strip_bytes(call).as_ptr(), STRIP_BYTES as u64, &mut header) };
+    let (mut header, mut measured) = ([0; 8], [0.0; 2]);
+    unsafe { raddlehue_strip_read(strip_bytes(call).as_ptr(), STRIP_BYTES as u64, &mut header, &mut measured) };
     header.iter().fold(0, |sum, number| sum ^ number)
 }
 

@@ -3,7 +3,7 @@
 //     fuzz_strips COUNT [SEED]
 //
 // COUNT damaged strips are read: cut, lengthened, with bits flipped, bytes set and fields at their edges, or random from the start, most of them with their length put right. What
-// is still accepted is read step by step and written again. With them damaged requests to the writer, lookups in two strips, steps that are none and damaged days. The first
+// is still accepted is read step by step and written again, what has air byte 1 without it. With them damaged requests to the writer, lookups in two strips, steps that are none and damaged days. The first
 // mismatch ends the run, and so does a refusal, a step, a strip found or an absent azimuth that was never drawn. `make memcheck` runs it under valgrind.
 use std::env;
 

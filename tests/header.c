@@ -15,10 +15,10 @@
         }                                                               \
     } while (0)
 
-/* moon 1960 8 6 20 27 28 600 -500 79400 585407609 389472334 769 standard */
+/* moon 1960 8 6 20 27 28 600 -500 79400 585407609 389472334 769 carried-over */
 static const raddlehue_start_ms_t moon_start = {1960, 8, 6, 20, 27, 28, 600, -500, 79400};
 static const raddlehue_point_t moon_point = {585407609, 389472334, 769};
-static const raddlehue_air_t standard = {RADDLEHUE_AIR_STANDARD, 0.0, 0.0};
+static const raddlehue_air_t temperate = {RADDLEHUE_AIR_MEASURED, 1010.0, 10.0};
 
 /* sun 2084 10 1 16 53 51 600 -500 55700 -481509256 -499537563 1954 measured 1200 80 */
 static const raddlehue_start_ms_t sun_start = {2084, 10, 1, 16, 53, 51, 600, -500, 55700};
@@ -30,7 +30,7 @@ static const raddlehue_start_ms_t overhead_start = {2005, 7, 18, 22, 32, 59, 0, 
 static const raddlehue_start_ms_t just_before = {2005, 7, 18, 22, 32, 58, 900, 0, 64700};
 static const raddlehue_point_t lahaina = {-1566828813, 208783487, 0};
 
-/* moon 2038 9 14 15 57 15 900 300 1022400 -464318022 25923395 54 standard: straight underfoot */
+/* moon 2038 9 14 15 57 15 900 300 1022400 -464318022 25923395 54 carried-over: straight underfoot */
 static const raddlehue_start_ms_t underfoot_start = {2038, 9, 14, 15, 57, 15, 900, 300, 1022400};
 static const raddlehue_point_t underfoot_point = {-464318022, 25923395, 54};
 
@@ -105,7 +105,7 @@ static int constants(void)
     CHECK(RADDLEHUE_STRIP_STEPS(5 + 5) == 144 && RADDLEHUE_STRIP_BYTES(1) == 5778 && RADDLEHUE_STRIP_BYTES(5 + 5) == 594);
     CHECK(RADDLEHUE_NO_AZIMUTH_E7 == (uint32_t)~(uint32_t)0 && sizeof(RADDLEHUE_NO_AZIMUTH_E7) == sizeof(uint32_t));
     CHECK(RADDLEHUE_SUN == 0 && RADDLEHUE_MOON == 1);
-    CHECK(RADDLEHUE_AIR_NONE == 0 && RADDLEHUE_AIR_STANDARD == 1 && RADDLEHUE_AIR_MEASURED == 2);
+    CHECK(RADDLEHUE_AIR_NONE == 0 && RADDLEHUE_AIR_MEASURED == 2 && RADDLEHUE_AIR_CARRIED_OVER == 3);
     return 0;
 }
 
@@ -123,9 +123,11 @@ static int sizes(void)
     CHECK(sizeof(raddlehue_date_ms_t) == 5 * sizeof(int64_t));
     CHECK(sizeof(raddlehue_rise_set_t) == 4 * sizeof(uint32_t));
     CHECK(sizeof(raddlehue_strip_t) == 8 * sizeof(int64_t));
-    CHECK(offsetof(raddlehue_strip_t, air) == 0 && offsetof(raddlehue_strip_t, body) == 8 && offsetof(raddlehue_strip_t, year) == 16);
+    CHECK(offsetof(raddlehue_strip_t, air_kind) == 0 && offsetof(raddlehue_strip_t, body) == 8 && offsetof(raddlehue_strip_t, year) == 16);
     CHECK(offsetof(raddlehue_strip_t, month) == 24 && offsetof(raddlehue_strip_t, day) == 32 && offsetof(raddlehue_strip_t, longitude_e7) == 40);
     CHECK(offsetof(raddlehue_strip_t, latitude_e7) == 48 && offsetof(raddlehue_strip_t, step_minutes) == 56);
+    CHECK(sizeof(raddlehue_strip_measured_t) == 2 * sizeof(double));
+    CHECK(offsetof(raddlehue_strip_measured_t, pressure_mbar) == 0 && offsetof(raddlehue_strip_measured_t, temperature_celsius) == 8);
     CHECK(sizeof(raddlehue_strip_part_t) == 3 * sizeof(uint64_t) && offsetof(raddlehue_strip_part_t, strip) == 0);
     CHECK(offsetof(raddlehue_strip_part_t, offset) == 8 && offsetof(raddlehue_strip_part_t, length) == 16);
     CHECK(sizeof(raddlehue_eclipse_t) == 4 * sizeof(int64_t));
@@ -146,7 +148,7 @@ static int texts(void)
 {
     uint32_t refusal;
     for (refusal = 0; refusal < 300; refusal++)
-        CHECK(known(refusal) == (refusal <= 16 || (20 <= refusal && refusal <= 31) || (101 <= refusal && refusal <= 107)));
+        CHECK(known(refusal) == (refusal <= 16 || (20 <= refusal && refusal <= 32) || (101 <= refusal && refusal <= 107)));
     CHECK(!known(0xffffffffu));
     CHECK(strcmp(raddlehue_refusal_text(RADDLEHUE_ACCEPTED), "accepted") == 0);
     CHECK(strcmp(raddlehue_refusal_text(RADDLEHUE_YEAR), "the year is not 1900 to 2100") == 0);
@@ -154,6 +156,7 @@ static int texts(void)
     CHECK(strcmp(raddlehue_refusal_text(RADDLEHUE_PROPOSAL_OUT), "a minute of the proposal is out of tolerance") == 0);
     CHECK(strcmp(raddlehue_refusal_text(RADDLEHUE_NO_STEP), "the strip has no such step") == 0);
     CHECK(RADDLEHUE_PROPOSAL_POINTS == 29 && RADDLEHUE_PROPOSAL_OPPOSITE == 30 && RADDLEHUE_PROPOSAL_OUT == 31 && RADDLEHUE_NO_PLAN == 107);
+    CHECK(RADDLEHUE_STRIP_MEASURED_AIR == 32);
     return 0;
 }
 
@@ -164,10 +167,11 @@ static int place(void)
     raddlehue_place_answer_t answer;
     CHECK(raddlehue_place(&moon_start, 2, &moon_point, 3, 0.0, 0.0, &flag, &place) == RADDLEHUE_UNKNOWN_BODY);
     CHECK(raddlehue_place(&moon_start, RADDLEHUE_MOON, &moon_point, 3, 0.0, 0.0, &flag, &place) == RADDLEHUE_UNKNOWN_AIR);
+    CHECK(raddlehue_place(&moon_start, RADDLEHUE_MOON, &moon_point, 1, 0.0, 0.0, &flag, &place) == RADDLEHUE_UNKNOWN_AIR);
     CHECK(raddlehue_place(&moon_start, RADDLEHUE_MOON, &moon_point, RADDLEHUE_AIR_MEASURED, 1200.5, 81.0, &flag, &place) == RADDLEHUE_PRESSURE);
     CHECK(raddlehue_place(&moon_start, RADDLEHUE_MOON, &moon_point, RADDLEHUE_AIR_MEASURED, 1200.0, 81.0, &flag, &place) == RADDLEHUE_TEMPERATURE);
     CHECK(flag == 77 && place.azimuth_if_any_e8 == -7 && place.elevation_e8 == -8);
-    CHECK(raddlehue_place(&moon_start, RADDLEHUE_MOON, &moon_point, RADDLEHUE_AIR_STANDARD, 0.0, 0.0, &flag, &place) == RADDLEHUE_ACCEPTED);
+    CHECK(raddlehue_place(&moon_start, RADDLEHUE_MOON, &moon_point, RADDLEHUE_AIR_MEASURED, 1010.0, 10.0, &flag, &place) == RADDLEHUE_ACCEPTED);
     CHECK(flag == 1 && place.azimuth_if_any_e8 == 19009485461 && place.elevation_e8 == 3497984949);
 
     answer = raddlehue_place_of(sun_start, RADDLEHUE_SUN, sun_point, measured);
@@ -226,7 +230,7 @@ static int milliseconds(void)
 {
     const raddlehue_start_ms_t start = {1949, 1, 12, 3, 18, 41, 906, 31, -1239899};
     const raddlehue_point_t point = {612395026, -325135240, 1454};
-    raddlehue_place_answer_t answer = raddlehue_place_of(start, RADDLEHUE_SUN, point, standard);
+    raddlehue_place_answer_t answer = raddlehue_place_of(start, RADDLEHUE_SUN, point, temperate);
     CHECK(answer.refusal == RADDLEHUE_ACCEPTED && answer.azimuth_if_any_e8 == 9971499373 && answer.elevation_e8 == 2688456507);
     CHECK(refusal_at(0, -900, -8000000) == RADDLEHUE_ACCEPTED && refusal_at(999, 900, 8000000) == RADDLEHUE_ACCEPTED);
     CHECK(refusal_at(-1, -901, -8000001) == RADDLEHUE_CLOCK && refusal_at(1000, 901, 8000001) == RADDLEHUE_CLOCK);
@@ -242,16 +246,17 @@ static int shown_place(void)
     raddlehue_shown_place_answer_t answer;
     CHECK(raddlehue_shown_place(&sun_start, 2, &sun_point, 3, 0.0, 0.0, &flag, &shown) == RADDLEHUE_UNKNOWN_BODY);
     CHECK(raddlehue_shown_place(&sun_start, RADDLEHUE_SUN, &sun_point, 3, 0.0, 0.0, &flag, &shown) == RADDLEHUE_UNKNOWN_AIR);
+    CHECK(raddlehue_shown_place(&sun_start, RADDLEHUE_SUN, &sun_point, 1, 0.0, 0.0, &flag, &shown) == RADDLEHUE_UNKNOWN_AIR);
     CHECK(raddlehue_shown_place(&sun_start, RADDLEHUE_SUN, &sun_point, RADDLEHUE_AIR_MEASURED, 1200.0, 80.5, &flag, &shown) == RADDLEHUE_TEMPERATURE);
     CHECK(flag == 77 && shown.azimuth_if_any_degrees == -7.0 && shown.elevation_degrees == -8.0 && shown.refraction_degrees == -9.0);
     CHECK(raddlehue_shown_place(&sun_start, RADDLEHUE_SUN, &sun_point, RADDLEHUE_AIR_MEASURED, 1200.0, 80.0, &flag, &shown) == RADDLEHUE_ACCEPTED);
     CHECK(flag == 1 && bits(shown.azimuth_if_any_degrees) == 0x407437c51fd22d5f);
     CHECK(bits(shown.elevation_degrees) == 0x40430f8592fd1b44 && bits(shown.refraction_degrees) == 0x3f94f757eb13390b);
 
-    answer = raddlehue_shown_place_of(moon_start, RADDLEHUE_MOON, moon_point, standard);
+    answer = raddlehue_shown_place_of(moon_start, RADDLEHUE_MOON, moon_point, temperate);
     CHECK(answer.refusal == RADDLEHUE_ACCEPTED && answer.has_azimuth == 1 && bits(answer.azimuth_if_any_degrees) == 0x4067c3090c88fa65);
     CHECK(bits(answer.elevation_degrees) == 0x404180804f70a596 && bits(answer.refraction_degrees) == 0x3f98a4d15af7270f);
-    answer = raddlehue_shown_place_of(moon_start, 2, moon_point, standard);
+    answer = raddlehue_shown_place_of(moon_start, 2, moon_point, temperate);
     CHECK(answer.refusal == RADDLEHUE_UNKNOWN_BODY && answer.has_azimuth == 0 && answer.azimuth_if_any_degrees == 0.0);
     CHECK(answer.elevation_degrees == 0.0 && answer.refraction_degrees == 0.0);
     return 0;
@@ -262,12 +267,12 @@ static int no_azimuth(void)
 {
     uint32_t flag = 77;
     raddlehue_place_t place = {-7, -8};
-    raddlehue_place_answer_t answer = raddlehue_place_of(overhead_start, RADDLEHUE_SUN, lahaina, standard);
-    CHECK(raddlehue_place(&overhead_start, RADDLEHUE_SUN, &lahaina, RADDLEHUE_AIR_STANDARD, 0.0, 0.0, &flag, &place) == RADDLEHUE_ACCEPTED);
+    raddlehue_place_answer_t answer = raddlehue_place_of(overhead_start, RADDLEHUE_SUN, lahaina, temperate);
+    CHECK(raddlehue_place(&overhead_start, RADDLEHUE_SUN, &lahaina, RADDLEHUE_AIR_MEASURED, 1010.0, 10.0, &flag, &place) == RADDLEHUE_ACCEPTED);
     CHECK(flag == 0 && place.azimuth_if_any_e8 == 0 && place.elevation_e8 == 8999999993);
     CHECK(answer.refusal == RADDLEHUE_ACCEPTED && answer.has_azimuth == 0);
     CHECK(answer.azimuth_if_any_e8 == 0 && answer.elevation_e8 == 8999999993);
-    answer = raddlehue_place_of(underfoot_start, RADDLEHUE_MOON, underfoot_point, standard);
+    answer = raddlehue_place_of(underfoot_start, RADDLEHUE_MOON, underfoot_point, temperate);
     CHECK(answer.refusal == RADDLEHUE_ACCEPTED && answer.has_azimuth == 0);
     CHECK(answer.azimuth_if_any_e8 == 0 && answer.elevation_e8 == -8999999993);
     return 0;
@@ -277,8 +282,8 @@ static int no_azimuth_shown(void)
 {
     uint32_t flag = 77;
     raddlehue_shown_place_t shown = {-7.0, -8.0, -9.0};
-    raddlehue_shown_place_answer_t answer = raddlehue_shown_place_of(overhead_start, RADDLEHUE_SUN, lahaina, standard);
-    CHECK(raddlehue_shown_place(&overhead_start, RADDLEHUE_SUN, &lahaina, RADDLEHUE_AIR_STANDARD, 0.0, 0.0, &flag, &shown) == RADDLEHUE_ACCEPTED);
+    raddlehue_shown_place_answer_t answer = raddlehue_shown_place_of(overhead_start, RADDLEHUE_SUN, lahaina, temperate);
+    CHECK(raddlehue_shown_place(&overhead_start, RADDLEHUE_SUN, &lahaina, RADDLEHUE_AIR_MEASURED, 1010.0, 10.0, &flag, &shown) == RADDLEHUE_ACCEPTED);
     CHECK(flag == 0 && bits(shown.azimuth_if_any_degrees) == 0);
     CHECK(bits(shown.elevation_degrees) == 0x40567fff78ef6395 && bits(shown.refraction_degrees) == 0xbf00d8ae5ee2ca9d);
     CHECK(answer.refusal == RADDLEHUE_ACCEPTED && answer.has_azimuth == 0 && bits(answer.azimuth_if_any_degrees) == 0);
@@ -378,7 +383,7 @@ static raddlehue_place_answer_t place_at(raddlehue_date_ms_t date, int64_t minut
     start.minute = minute % 60;
     start.ut1_ms = date.ut1_ms;
     start.delta_t_ms = date.delta_t_ms;
-    return raddlehue_place_of(start, body, point, standard);
+    return raddlehue_place_of(start, body, point, temperate);
 }
 
 static int rises_and_sets(raddlehue_day_answer_t answer, uint32_t has_rise, uint32_t rise_minute, uint32_t has_set, uint32_t set_minute)
@@ -607,6 +612,10 @@ static int refused_strip_write(void)
     memset(bytes, 0x5a, sizeof bytes);
     CHECK(raddlehue_strip_write(&strip, azimuths, 144, bytes, 593, &written) == RADDLEHUE_STRIP_BUFFER);
     CHECK(raddlehue_strip_write(&strip, azimuths, 144, 0, 0, &written) == RADDLEHUE_STRIP_BUFFER);
+    strip.air_kind = RADDLEHUE_AIR_MEASURED;
+    CHECK(raddlehue_strip_write(&strip, azimuths, 144, bytes, 593, &written) == RADDLEHUE_STRIP_MEASURED_AIR);
+    strip.air_kind = RADDLEHUE_AIR_CARRIED_OVER;
+    CHECK(raddlehue_strip_write(&strip, azimuths, 144, bytes, sizeof bytes, &written) == RADDLEHUE_STRIP_MEASURED_AIR);
     azimuths[143] = 3600000000u;
     CHECK(raddlehue_strip_write(&strip, azimuths, 144, bytes, 593, &written) == RADDLEHUE_STRIP_AZIMUTH);
     azimuths[143] = RADDLEHUE_NO_AZIMUTH_E7 - 1;
@@ -623,9 +632,9 @@ static int refused_strip_write(void)
     CHECK(raddlehue_strip_write(&strip, azimuths, 143, bytes, 593, &written) == RADDLEHUE_STRIP_POINT);
     strip.day = 32;
     CHECK(raddlehue_strip_write(&strip, azimuths, 143, bytes, 593, &written) == RADDLEHUE_STRIP_DATE);
-    strip.air = RADDLEHUE_AIR_MEASURED;
-    CHECK(raddlehue_strip_write(&strip, azimuths, 143, bytes, 593, &written) == RADDLEHUE_STRIP_AIR_OR_BODY);
-    strip.air = 4294967296;
+    strip.air_kind = 1;
+    CHECK(raddlehue_strip_write(&strip, azimuths, 143, bytes, 593, &written) == RADDLEHUE_UNKNOWN_AIR);
+    strip.air_kind = 4294967296;
     CHECK(raddlehue_strip_write(&strip, azimuths, 143, bytes, 593, &written) == RADDLEHUE_UNKNOWN_AIR);
     strip.body = 4294967296;
     CHECK(raddlehue_strip_write(&strip, azimuths, 143, bytes, 593, &written) == RADDLEHUE_UNKNOWN_BODY);
@@ -640,12 +649,12 @@ static int refused_headers(void)
     raddlehue_strip_t strip = ten_minutes;
     uint8_t bytes[RADDLEHUE_STRIP_BYTES(10)];
     uint32_t azimuths[RADDLEHUE_STRIP_STEPS(10)];
-    const int64_t wrong[12][3] = {
-        {0, -1, 102}, {0, 2, 22}, {0, 3, 102}, {1, -1, 101}, {1, 2, 101}, {2, 1899, 23}, {2, 2101, 23}, {3, 0, 23}, {4, 0, 23},
+    const int64_t wrong[14][3] = {
+        {0, -1, 102}, {0, 1, 102}, {0, 2, 32}, {0, 3, 32}, {0, 4, 102}, {1, -1, 101}, {1, 2, 101}, {2, 1899, 23}, {2, 2101, 23}, {3, 0, 23}, {4, 0, 23},
         {5, -1800000001, 24}, {6, 900000001, 24}, {7, 0, 25}};
     int64_t number[8], at;
     fill_azimuths(azimuths);
-    for (at = 0; at < 12; at++) {
+    for (at = 0; at < 14; at++) {
         memcpy(number, &ten_minutes, sizeof number);
         number[wrong[at][0]] = wrong[at][1];
         memcpy(&strip, number, sizeof strip);
@@ -659,12 +668,45 @@ static int strip_read(void)
 {
     uint8_t bytes[RADDLEHUE_STRIP_BYTES(10)], again[RADDLEHUE_STRIP_BYTES(10)];
     raddlehue_strip_t strip = {-7, -7, -7, -7, -7, -7, -7, -7};
+    raddlehue_strip_measured_t air = {-7.0, -8.0};
     raddlehue_strip_read_answer_t answer;
     CHECK(make_strip(ten_minutes, bytes, sizeof bytes));
-    CHECK(raddlehue_strip_read(bytes, sizeof bytes, &strip) == RADDLEHUE_ACCEPTED && memcmp(&strip, &ten_minutes, sizeof strip) == 0);
+    CHECK(raddlehue_strip_read(bytes, sizeof bytes, &strip, &air) == RADDLEHUE_ACCEPTED && memcmp(&strip, &ten_minutes, sizeof strip) == 0);
+    CHECK(bits(air.pressure_mbar) == 0 && bits(air.temperature_celsius) == 0);
     answer = raddlehue_strip_read_of(bytes, sizeof bytes);
     CHECK(answer.refusal == RADDLEHUE_ACCEPTED && memcmp(&answer.strip, &ten_minutes, sizeof strip) == 0);
+    CHECK(answer.air.kind == RADDLEHUE_AIR_NONE && raddlehue_request_air(answer.air).kind == RADDLEHUE_AIR_NONE);
     CHECK(make_strip(strip, again, sizeof again) && memcmp(bytes, again, sizeof bytes) == 0);
+    return 0;
+}
+
+/* A strip that was written with air byte 1, which meant standard air: its air is measured, with the mark that it was carried over, and all else is as without it. */
+static int old_strip_read(void)
+{
+    uint8_t bytes[RADDLEHUE_STRIP_BYTES(10)], again[RADDLEHUE_STRIP_BYTES(10)];
+    raddlehue_strip_t strip = {-7, -7, -7, -7, -7, -7, -7, -7};
+    raddlehue_strip_measured_t air = {-7.0, -8.0};
+    raddlehue_strip_read_answer_t answer;
+    raddlehue_air_t request;
+    CHECK(make_strip(ten_minutes, bytes, sizeof bytes));
+    bytes[3] = 1;
+    CHECK(raddlehue_strip_read(bytes, sizeof bytes, &strip, &air) == RADDLEHUE_ACCEPTED);
+    CHECK(strip.air_kind == RADDLEHUE_AIR_CARRIED_OVER && air.pressure_mbar == 1010.0 && air.temperature_celsius == 10.0);
+    answer = raddlehue_strip_read_of(bytes, sizeof bytes);
+    CHECK(answer.refusal == RADDLEHUE_ACCEPTED && memcmp(&answer.strip, &strip, sizeof strip) == 0);
+    CHECK(answer.air.kind == RADDLEHUE_AIR_CARRIED_OVER && answer.air.pressure_mbar == 1010.0 && answer.air.temperature_celsius == 10.0);
+    memset(again, 0x5a, sizeof again);
+    CHECK(!make_strip(strip, again, sizeof again) && all_are(again, sizeof again, 0x5a));
+    strip.air_kind = RADDLEHUE_AIR_NONE;
+    CHECK(memcmp(&strip, &ten_minutes, sizeof strip) == 0);
+    bytes[3] = 0;
+    CHECK(make_strip(strip, again, sizeof again) && memcmp(bytes, again, sizeof bytes) == 0);
+
+    request = raddlehue_request_air(answer.air);
+    CHECK(request.kind == RADDLEHUE_AIR_MEASURED && request.pressure_mbar == 1010.0 && request.temperature_celsius == 10.0);
+    CHECK(bits(raddlehue_shown_place_of(moon_start, RADDLEHUE_MOON, moon_point, request).elevation_degrees) == 0x404180804f70a596);
+    request.kind = answer.air.kind;
+    CHECK(raddlehue_shown_place_of(moon_start, RADDLEHUE_MOON, moon_point, request).refusal == RADDLEHUE_UNKNOWN_AIR);
     return 0;
 }
 
@@ -692,36 +734,39 @@ static int refused_strip_read(void)
 {
     uint8_t bytes[RADDLEHUE_STRIP_BYTES(10)];
     raddlehue_strip_t strip = {-7, -7, -7, -7, -7, -7, -7, -7};
+    raddlehue_strip_measured_t air = {-7.0, -8.0};
     raddlehue_strip_read_answer_t answer;
     CHECK(make_strip(ten_minutes, bytes, sizeof bytes));
     bytes[RADDLEHUE_STRIP_HEADER] = 0xfe;
-    CHECK(raddlehue_strip_read(bytes, sizeof bytes, &strip) == RADDLEHUE_STRIP_AZIMUTH);
+    CHECK(raddlehue_strip_read(bytes, sizeof bytes, &strip, &air) == RADDLEHUE_STRIP_AZIMUTH);
     bytes[RADDLEHUE_STRIP_HEADER] = 0;
     memcpy(bytes + 590, "\xd6\x93\xa4\0", 4);
-    CHECK(raddlehue_strip_read(bytes, sizeof bytes, &strip) == RADDLEHUE_STRIP_AZIMUTH);
+    CHECK(raddlehue_strip_read(bytes, sizeof bytes, &strip, &air) == RADDLEHUE_STRIP_AZIMUTH);
     bytes[17] = 5;
-    CHECK(raddlehue_strip_read(bytes, sizeof bytes, &strip) == RADDLEHUE_STRIP_LENGTH);
+    CHECK(raddlehue_strip_read(bytes, sizeof bytes, &strip, &air) == RADDLEHUE_STRIP_LENGTH);
     bytes[17] = 3;
-    CHECK(raddlehue_strip_read(bytes, sizeof bytes, &strip) == RADDLEHUE_STRIP_STEP);
+    CHECK(raddlehue_strip_read(bytes, sizeof bytes, &strip, &air) == RADDLEHUE_STRIP_STEP);
     memcpy(bytes + 13, "\x35\xa4\xe9\x01", 4);
-    CHECK(raddlehue_strip_read(bytes, sizeof bytes, &strip) == RADDLEHUE_STRIP_POINT);
+    CHECK(raddlehue_strip_read(bytes, sizeof bytes, &strip, &air) == RADDLEHUE_STRIP_POINT);
     bytes[17] = 5;
-    CHECK(raddlehue_strip_read(bytes, sizeof bytes, &strip) == RADDLEHUE_STRIP_POINT);
+    CHECK(raddlehue_strip_read(bytes, sizeof bytes, &strip, &air) == RADDLEHUE_STRIP_POINT);
     bytes[8] = 32;
-    CHECK(raddlehue_strip_read(bytes, sizeof bytes, &strip) == RADDLEHUE_STRIP_DATE);
+    CHECK(raddlehue_strip_read(bytes, sizeof bytes, &strip, &air) == RADDLEHUE_STRIP_DATE);
     bytes[4] = 2;
-    CHECK(raddlehue_strip_read(bytes, sizeof bytes, &strip) == RADDLEHUE_STRIP_AIR_OR_BODY);
+    CHECK(raddlehue_strip_read(bytes, sizeof bytes, &strip, &air) == RADDLEHUE_STRIP_AIR_OR_BODY);
     bytes[4] = RADDLEHUE_SUN;
-    bytes[3] = RADDLEHUE_AIR_MEASURED;
-    CHECK(raddlehue_strip_read(bytes, sizeof bytes, &strip) == RADDLEHUE_STRIP_AIR_OR_BODY);
+    bytes[3] = 2;
+    CHECK(raddlehue_strip_read(bytes, sizeof bytes, &strip, &air) == RADDLEHUE_STRIP_AIR_OR_BODY);
     bytes[2] = 2;
-    CHECK(raddlehue_strip_read(bytes, sizeof bytes, &strip) == RADDLEHUE_STRIP_VERSION);
+    CHECK(raddlehue_strip_read(bytes, sizeof bytes, &strip, &air) == RADDLEHUE_STRIP_VERSION);
     bytes[0] = 3;
-    CHECK(raddlehue_strip_read(bytes, sizeof bytes, &strip) == RADDLEHUE_STRIP_LENGTH);
-    CHECK(strip.air == -7 && strip.body == -7 && strip.year == -7 && strip.month == -7 && strip.day == -7);
+    CHECK(raddlehue_strip_read(bytes, sizeof bytes, &strip, &air) == RADDLEHUE_STRIP_LENGTH);
+    CHECK(air.pressure_mbar == -7.0 && air.temperature_celsius == -8.0);
+    CHECK(strip.air_kind == -7 && strip.body == -7 && strip.year == -7 && strip.month == -7 && strip.day == -7);
     CHECK(strip.longitude_e7 == -7 && strip.latitude_e7 == -7 && strip.step_minutes == -7);
     answer = raddlehue_strip_read_of(bytes, sizeof bytes);
-    CHECK(answer.refusal == RADDLEHUE_STRIP_LENGTH && answer.strip.air == 0 && answer.strip.year == 0 && answer.strip.step_minutes == 0);
+    CHECK(answer.refusal == RADDLEHUE_STRIP_LENGTH && answer.strip.air_kind == 0 && answer.strip.year == 0 && answer.strip.step_minutes == 0);
+    CHECK(answer.air.kind == 0 && answer.air.pressure_mbar == 0.0 && answer.air.temperature_celsius == 0.0);
     return 0;
 }
 
@@ -1320,16 +1365,17 @@ static int refraction(void)
     double degrees = -7.0;
     raddlehue_refraction_answer_t answer;
     CHECK(raddlehue_refraction(9000000001, 3, 1200.5, 80.5, &degrees) == RADDLEHUE_UNKNOWN_AIR);
+    CHECK(raddlehue_refraction(0, 1, 1010.0, 10.0, &degrees) == RADDLEHUE_UNKNOWN_AIR);
     CHECK(raddlehue_refraction(9000000001, RADDLEHUE_AIR_MEASURED, 1200.5, 80.5, &degrees) == RADDLEHUE_NO_ELEVATION);
     CHECK(raddlehue_refraction(0, RADDLEHUE_AIR_MEASURED, 1200.5, 80.5, &degrees) == RADDLEHUE_PRESSURE);
     CHECK(degrees == -7.0);
-    CHECK(raddlehue_refraction(0, RADDLEHUE_AIR_STANDARD, 0.0, 0.0, &degrees) == RADDLEHUE_ACCEPTED);
+    CHECK(raddlehue_refraction(0, RADDLEHUE_AIR_MEASURED, 1010.0, 10.0, &degrees) == RADDLEHUE_ACCEPTED);
     CHECK(bits(degrees) == 0x3fdee9ff9526e05e);
-    answer = raddlehue_refraction_of(8999200393, standard);
+    answer = raddlehue_refraction_of(8999200393, temperate);
     CHECK(answer.refusal == RADDLEHUE_ACCEPTED && bits(answer.refraction_degrees) == 0xbeff353c0509cad5);
-    answer = raddlehue_refraction_of(RADDLEHUE_LOWEST_REFRACTED_E8, standard);
+    answer = raddlehue_refraction_of(RADDLEHUE_LOWEST_REFRACTED_E8, temperate);
     CHECK(answer.refusal == RADDLEHUE_ACCEPTED && bits(answer.refraction_degrees) == 0x3fe3c8b013d371f2);
-    answer = raddlehue_refraction_of(RADDLEHUE_LOWEST_REFRACTED_E8 - 1, standard);
+    answer = raddlehue_refraction_of(RADDLEHUE_LOWEST_REFRACTED_E8 - 1, temperate);
     CHECK(answer.refusal == RADDLEHUE_ACCEPTED && bits(answer.refraction_degrees) == 0);
     answer = raddlehue_refraction_of(0, hot);
     CHECK(answer.refusal == RADDLEHUE_TEMPERATURE && answer.refraction_degrees == 0.0);
@@ -1423,7 +1469,7 @@ int main(void)
     return constants() || sizes() || texts() || place() || refusals() || milliseconds() || shown_place() || no_azimuth() || no_azimuth_shown() || batch() ||
            no_azimuth_in_a_batch() || refused_batch() || last_moment() || empty_batch() || day() || days_without() || refused_day() || day_azimuths() ||
            day_without_an_azimuth() || refused_day_azimuths() || strip_write() || refused_strip_write() || refused_headers() || strip_read() ||
-           strip_lengths() || refused_strip_read() || strip_azimuth() || strip_find() || refused_strip_find() || largest_strip() || values() || judge() ||
-           legs() || uncompared() || refused_points() || refused_judge() || plan() || plan_of() || no_plan() || refused_plan() || eclipse() ||
-           refused_eclipse() || covered_share() || middle() || refraction() || days_and_instants() || moon_and_sun() || earth() || numbers();
+           old_strip_read() || strip_lengths() || refused_strip_read() || strip_azimuth() || strip_find() || refused_strip_find() || largest_strip() ||
+           values() || judge() || legs() || uncompared() || refused_points() || refused_judge() || plan() || plan_of() || no_plan() || refused_plan() ||
+           eclipse() || refused_eclipse() || covered_share() || middle() || refraction() || days_and_instants() || moon_and_sun() || earth() || numbers();
 }

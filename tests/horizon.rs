@@ -19,7 +19,7 @@ fn raised(elevation: i64, air: Air) -> f64 {
 }
 
 fn limit() {
-    for air in [STANDARD, BOULDER, DENSEST] {
+    for air in [carried_over(), BOULDER, DENSEST] {
         for elevation in [LOWEST_REFRACTED, LOWEST_REFRACTED + 1, -1, 0, 1] {
             assert!(raised(elevation, air) > 0.0, "{elevation} {air:?}");
         }
@@ -84,8 +84,6 @@ const POINTS: [[i64; 3]; 6] = [
     [900_000_000, -870_000_000, 9000],
 ];
 
-const AIRS: [Air; 4] = [NO_AIR, STANDARD, BOULDER, DENSEST];
-
 // A body on a date over a point.
 #[derive(Clone, Copy, Debug)]
 struct View {
@@ -126,13 +124,14 @@ impl View {
 
 // How many risings and settings there are, and how many pairs of minutes above the limit.
 fn minutes() -> (usize, usize) {
+    let airs = [NO_AIR, carried_over(), BOULDER, DENSEST];
     let (mut crossings, mut pairs) = (0, 0);
     for [year, month, day, ut1, delta_t] in DATES {
         for ([longitude, latitude, height], body) in POINTS.into_iter().flat_map(|point| [(point, SUN), (point, MOON)]) {
             let view = View { numbers: [year, month, day, ut1, delta_t, longitude, latitude, height], body };
             for minute in view.crossings() {
                 crossings += 1;
-                pairs += AIRS.map(|air| view.through(minute, air)).iter().sum::<usize>();
+                pairs += airs.map(|air| view.through(minute, air)).iter().sum::<usize>();
             }
         }
     }

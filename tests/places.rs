@@ -107,20 +107,32 @@ fn codes() {
     let nowhere = [i64::MIN; 12];
     for code in [2, 3, 256, 1 << 31, u32::MAX] {
         for request in [GOOD_REQUEST, nowhere] {
-            refused(&request, code, STANDARD, 101);
+            refused(&request, code, NO_AIR, 101);
             batch_refused(&request, code, &[0], (0, 1), 101, 0);
             batch_refused(&request, code, &[], (0, 0), 101, 0);
-            if code != 2 {
-                let air = Air { kind: code, pressure: f64::NAN, temperature: 0.0 };
-                refused(&request, code, air, 101);
+            refused(&request, code, Air { kind: 1, ..NO_AIR }, 101);
+        }
+    }
+}
+
+// A request's air is none or measured: not 1, which was standard, nor 3, which is a strip's alone.
+fn kinds() {
+    for kind in [1, 3, 4, 256, 258, 1 << 31, u32::MAX] {
+        for (pressure, temperature) in [(0.0, 0.0), (1010.0, 10.0), (f64::NAN, 0.0)] {
+            let air = Air { kind, pressure, temperature };
+            for request in [GOOD_REQUEST, [i64::MIN; 12]] {
+                refused(&request, 2, air, 101);
+                refused(&request, SUN, air, 102);
                 refused(&request, MOON, air, 102);
-                assert_eq!(refraction(i64::MAX, air), (102, POISON));
+            }
+            for elevation in [0, i64::MAX] {
+                assert_eq!(refraction(elevation, air), (102, POISON));
             }
         }
     }
 }
 
-// A measured air out of range, or not a number, is refused; any other has no pressure and no temperature.
+// A measured air out of range, or not a number, is refused; none has no pressure and no temperature.
 fn airs() {
     for x in [f64::NAN, -f64::NAN, f64::INFINITY, f64::NEG_INFINITY, f64::MAX, -1e-300, 1200.0000000000002] {
         for t in [x, 10.0] {
@@ -131,24 +143,21 @@ fn airs() {
     for x in [f64::NAN, -f64::NAN, f64::INFINITY, f64::NEG_INFINITY, f64::MIN, 80.00000000000001, -80.00000000000001] {
         refused(&GOOD_REQUEST, MOON, measured(1010.0, x), 11);
         assert_eq!(refraction(0, measured(1010.0, x)), (11, POISON));
-        for kind in [0, 1] {
-            let given = Air { kind, pressure: x, temperature: x };
-            let plain = Air { kind, ..NO_AIR };
-            assert_eq!(shown_place(&GOOD_REQUEST, SUN, given), shown_place(&GOOD_REQUEST, SUN, plain));
-            assert_eq!(refraction(500_000_000, given), refraction(500_000_000, plain));
-        }
+        let given = Air { pressure: x, temperature: x, ..NO_AIR };
+        assert_eq!(shown_place(&GOOD_REQUEST, SUN, given), shown_place(&GOOD_REQUEST, SUN, NO_AIR));
+        assert_eq!(refraction(500_000_000, given), refraction(500_000_000, NO_AIR));
     }
-    let (standard, same) = (shown_place(&GOOD_REQUEST, SUN, STANDARD), shown_place(&GOOD_REQUEST, SUN, measured(1010.0, 10.0)));
-    assert_eq!((standard.0, standard), (0, same));
 }
+
+const MEASURED: Air = measured(1010.0, 10.0);
 
 fn elevations() {
     for elevation in [i64::MIN, -9_000_000_001, 9_000_000_001, i64::MAX] {
-        assert_eq!(refraction(elevation, STANDARD), (103, POISON));
+        assert_eq!(refraction(elevation, MEASURED), (103, POISON));
         assert_eq!(refraction(elevation, measured(f64::NAN, 0.0)), (103, POISON));
     }
-    assert_eq!(refraction(-9_000_000_000, STANDARD), (0, 0));
-    assert_eq!(refraction(9_000_000_000, STANDARD).0, 0);
+    assert_eq!(refraction(-9_000_000_000, MEASURED), (0, 0));
+    assert_eq!(refraction(9_000_000_000, MEASURED).0, 0);
 }
 
 fn middles() {
@@ -194,6 +203,7 @@ fn main() {
     let count = vectors(env::args().skip(1));
     fields();
     codes();
+    kinds();
     airs();
     elevations();
     middles();

@@ -14,7 +14,7 @@ pub const HEADER_BYTES: usize = 18;
 
 // What each number of a header is within; the step, which has gaps, from the least to the greatest.
 const RANGES: [(i64, i64); 8] =
-    [(0, 1), (0, 1), (1900, 2100), (1, 12), (1, 31), (-1_800_000_000, 1_800_000_000), (-900_000_000, 900_000_000), (1, 10)];
+    [(0, 0), (0, 1), (1900, 2100), (1, 12), (1, 31), (-1_800_000_000, 1_800_000_000), (-900_000_000, 900_000_000), (1, 10)];
 
 // The numbers of a strip's bytes: where each stands, its count of bytes, and those next to its edges. The year's are more than one, and the last of each is far out.
 const NUMBERS: [(usize, usize, &[i64]); 9] = [
@@ -63,7 +63,7 @@ pub fn header(random: &mut Random) -> Header {
     let [year, month, day] = date(random);
     let step = STEPS[[0, 1, 2, 2].get(random.below(16) as usize).copied().unwrap_or(3)];
     let [longitude, latitude] = [RANGES[5], RANGES[6]].map(|(lo, hi)| random.field(lo, hi));
-    [random.below(2) as i64, random.below(2) as i64, year, month, day, longitude, latitude, step]
+    [0, random.below(2) as i64, year, month, day, longitude, latitude, step]
 }
 
 // So many azimuths, round the sky from any on, some of them at an edge or absent.
@@ -76,7 +76,7 @@ pub fn azimuths(random: &mut Random, count: usize) -> Box<[u32]> {
     azimuths.into()
 }
 
-// A header with one or two numbers outside their range, or none, now and then measured air.
+// A header with one or two numbers outside their range, or none, now and then measured air, carried over or not, or what standard air had.
 pub fn damaged_header(random: &mut Random, header: &Header) -> Header {
     let mut damaged = *header;
     for _ in 0..random.below(3) {
@@ -84,9 +84,10 @@ pub fn damaged_header(random: &mut Random, header: &Header) -> Header {
         damaged[at] = random.outside(RANGES[at].0, RANGES[at].1);
     }
     match random.below(8) {
-        0 => damaged[0] = 2,
-        1 => damaged[7] = no_step(random),
-        2 => damaged[4] = random.between(28, 32),
+        0 => damaged[0] = random.between(1, 3),
+        1 => damaged[0] = random.between(2, 3),
+        2 => damaged[7] = no_step(random),
+        3 => damaged[4] = random.between(28, 32),
         _ => {}
     }
     damaged
@@ -120,6 +121,13 @@ pub fn size(random: &mut Random, strip: usize) -> usize {
 }
 
 // ---- bytes
+
+// The same strip as a version that had standard air wrote it.
+pub fn old(strip: &[u8]) -> Box<[u8]> {
+    let mut bytes: Box<[u8]> = strip.into();
+    put(&mut bytes, 3, 1, 1);
+    bytes
+}
 
 // A strip damaged once or twice, or bytes that never were one. In three of four the length is then put right, so that what is judged behind it is reached; else it is left or spoilt.
 pub fn damaged(random: &mut Random, strip: &[u8]) -> Box<[u8]> {

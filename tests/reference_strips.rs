@@ -2,12 +2,12 @@
 #![allow(dead_code)]
 
 use raddlehue_reference as reference;
-use reference::{Air, Body, Strip};
+use reference::{Body, Strip, StripAir};
 
-use crate::archive::{Answer, Header, POISON};
+use crate::archive::{Answer, Header, HeaderRead, POISON};
 use crate::compared::{answer, answer_one, answer_or};
 
-// Measured air has a pressure and a temperature, which a strip has not: any will do.
+// Measured air has a pressure and a temperature, which are not asked of a writer: any will do.
 fn strip_of(header: &Header) -> Result<Strip, u32> {
     let [air, body, year, month, day, longitude, latitude, step] = *header;
     let body = match body {
@@ -16,18 +16,23 @@ fn strip_of(header: &Header) -> Result<Strip, u32> {
         _ => return Err(101),
     };
     let air = match air {
-        0 => Air::None,
-        1 => Air::Standard,
-        2 => Air::Measured(820.0, 11.0),
+        0 => StripAir::None,
+        2 => StripAir::Measured(820.0, 11.0),
+        3 => StripAir::CarriedOver(1010.0, 10.0),
         _ => return Err(102),
     };
     Ok(Strip { air, body, year, month, day, longitude, latitude, step })
 }
 
-fn header_of(strip: Strip) -> Header {
-    let air = i64::from(strip.air == Air::Standard);
+fn header_of(strip: Strip) -> HeaderRead {
+    let (air, pressure, temperature) = match strip.air {
+        StripAir::None => (0, 0.0, 0.0),
+        StripAir::Measured(pressure, temperature) => (2, pressure, temperature),
+        StripAir::CarriedOver(pressure, temperature) => (3, pressure, temperature),
+    };
     let body = i64::from(strip.body == Body::Moon);
-    [air, body, strip.year, strip.month, strip.day, strip.longitude, strip.latitude, strip.step]
+    let [pressure, temperature] = [pressure, temperature].map(|x: f64| x.to_bits() as i64);
+    [air, body, strip.year, strip.month, strip.day, strip.longitude, strip.latitude, strip.step, pressure, temperature]
 }
 
 pub fn strip_write(header: &Header, azimuths: &[u32], bytes: &mut [u8]) -> Answer<i64> {
@@ -35,7 +40,7 @@ pub fn strip_write(header: &Header, azimuths: &[u32], bytes: &mut [u8]) -> Answe
     answer_one(found.map(|count| count as i64))
 }
 
-pub fn strip_read(bytes: &[u8]) -> Answer<Header> {
+pub fn strip_read(bytes: &[u8]) -> Answer<HeaderRead> {
     let found = reference::read_strip(bytes).map_err(u32::from);
     answer(found.map(|(strip, _)| header_of(strip)))
 }

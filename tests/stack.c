@@ -27,6 +27,7 @@ static raddlehue_shown_place_t shown;
 static raddlehue_batch_t told;
 static raddlehue_rise_set_t rise_set;
 static raddlehue_strip_t strip = {RADDLEHUE_AIR_NONE, RADDLEHUE_SUN, 2003, 10, 17, -1051786000, 397424760, 1};
+static raddlehue_strip_measured_t measured;
 static uint32_t day_azimuths[RADDLEHUE_STRIP_STEPS(1)], entry_e7;
 static uint8_t bytes[RADDLEHUE_STRIP_BYTES(1)];
 static raddlehue_strip_part_t part;
@@ -53,7 +54,7 @@ static void batch(void) { kept = raddlehue_batch_ms(&start, body, &point, offset
 static void day(void) { kept = raddlehue_day(&date, body, &point, curve, &rise_set); }
 static void azimuths_of_a_day(void) { kept = raddlehue_day_azimuths(&date, body, &point, 1, day_azimuths, RADDLEHUE_STRIP_STEPS(1), &count); }
 static void strip_write(void) { kept = raddlehue_strip_write(&strip, day_azimuths, RADDLEHUE_STRIP_STEPS(1), bytes, sizeof bytes, &count); }
-static void strip_read(void) { kept = raddlehue_strip_read(bytes, sizeof bytes, &strip); }
+static void strip_read(void) { kept = raddlehue_strip_read(bytes, sizeof bytes, &strip, &measured); }
 static void strip_find(void) { kept = raddlehue_strip_find(bytes, sizeof bytes, bytes, sizeof bytes, 2003, 10, 17, &part); }
 static void strip_azimuth(void) { kept = raddlehue_strip_azimuth(bytes + RADDLEHUE_STRIP_HEADER, sizeof bytes - RADDLEHUE_STRIP_HEADER, 1439, &entry_e7); }
 static void judge(void) { kept = raddlehue_judge(&date, body, &point, UINT64_MAX, ends, 2, norths, 2, &out_minute); }

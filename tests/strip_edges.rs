@@ -1,4 +1,4 @@
-// Every sentence on day strips (02, Item 6) at its edges, through the archive: each refusal with what is just inside and just outside of it, any two at once, and buffers of every size
+// Every sentence on day strips (02, Items 6 and 9) at its edges, through the archive: each refusal with what is just inside and just outside of it, any two at once, and buffers of every size
 // about a strip's. A refused call writes nothing.
 mod archive;
 use archive::*;
@@ -34,6 +34,12 @@ fn with(at: usize, new: &[u8]) -> Vec<u8> {
     bytes
 }
 
+// A strip as a version that had standard air wrote it.
+fn old(mut bytes: Vec<u8>) -> Vec<u8> {
+    bytes[3] = 1;
+    bytes
+}
+
 // A strip whose length is that of its bytes, where it has one.
 fn of_own_length(mut bytes: Vec<u8>) -> Vec<u8> {
     if let Some(length) = bytes.len().checked_sub(2) {
@@ -43,14 +49,14 @@ fn of_own_length(mut bytes: Vec<u8>) -> Vec<u8> {
 }
 
 fn refused(bytes: &[u8], refusal: u32) {
-    assert_eq!(strip_read(bytes), (refusal, [POISON; 8]), "{bytes:?}");
+    assert_eq!(strip_read(bytes), (refusal, [POISON; 10]), "{bytes:?}");
 }
 
 // The header that is read has the number in that field, and is else the good one.
 fn reads(bytes: &[u8], field: usize, number: i64) {
     let mut header = GOOD;
     header[field] = number;
-    assert_eq!(strip_read(bytes), (0, header), "{bytes:?}");
+    assert_eq!(strip_read(bytes), (0, as_read(&header)), "{bytes:?}");
 }
 
 // ---- the reader
@@ -58,7 +64,7 @@ fn reads(bytes: &[u8], field: usize, number: i64) {
 fn lengths() {
     for told in 0..=u16::MAX {
         let bytes = with(0, &told.to_be_bytes());
-        assert_eq!(strip_read(&bytes), if usize::from(told) == BYTES - 2 { (0, GOOD) } else { (20, [POISON; 8]) }, "{told}");
+        assert_eq!(strip_read(&bytes), if usize::from(told) == BYTES - 2 { (0, as_read(&GOOD)) } else { (20, [POISON; 10]) }, "{told}");
     }
     let long = [good(), vec![0; 200]].concat();
     for length in (0..=long.len()).filter(|length| *length != BYTES) {
@@ -80,13 +86,14 @@ fn bytes_of_fields() {
     for byte in 0..=u8::MAX {
         let number = i64::from(byte);
         if byte == 1 {
-            assert_eq!(strip_read(&with(2, &[byte])), (0, GOOD));
+            assert_eq!(strip_read(&with(2, &[byte])), (0, as_read(&GOOD)));
         } else {
             refused(&with(2, &[byte]), 21);
         }
         for (at, field, accepted, refusal) in [(3, 0, 0..=1, 22), (4, 1, 0..=1, 22), (7, 3, 1..=12, 23), (8, 4, 1..=31, 23), (17, 7, 10..=10, 25)] {
             let bytes = with(at, &[byte]);
             match byte {
+                1 if at == 3 => reads(&bytes, field, CARRIED_OVER),
                 _ if accepted.contains(&number) => reads(&bytes, field, number),
                 1 | 2 | 5 if at == 17 => refused(&bytes, 20),
                 _ => refused(&bytes, refusal),
@@ -112,7 +119,7 @@ fn dates() {
             let [high, low] = (year as u16).to_be_bytes();
             let mut header = GOOD;
             header[2..5].copy_from_slice(&[year, month, day]);
-            let expected = if day_count(year, month, day).0 == 0 { (0, header) } else { (23, [POISON; 8]) };
+            let expected = if day_count(year, month, day).0 == 0 { (0, as_read(&header)) } else { (23, [POISON; 10]) };
             assert_eq!(strip_read(&with(5, &[high, low, month as u8, day as u8])), expected, "{year} {month} {day}");
         }
     }
@@ -134,7 +141,7 @@ fn azimuths_at_edges() {
     for step in 0..STEPS {
         for azimuth in [0, 1, 1 << 31, TURN - 1, NO_AZIMUTH] {
             let bytes = with(HEADER_BYTES + 4 * step, &azimuth.to_be_bytes());
-            assert_eq!(strip_read(&bytes), (0, GOOD), "{step} {azimuth}");
+            assert_eq!(strip_read(&bytes), (0, as_read(&GOOD)), "{step} {azimuth}");
             assert_eq!(strip_azimuth(&bytes[HEADER_BYTES..], step as u64), (0, azimuth), "{step}");
         }
         for azimuth in [TURN, TURN + 1, NO_AZIMUTH - 1] {
@@ -199,16 +206,17 @@ fn not_written(handed: Handed, refusal: u32) {
     assert!(buffer.iter().all(|byte| *byte == POISON_BYTE), "{header:?} {size}: written to, and refused");
 }
 
-const WRITER_SPOILS: [Spoil<Handed>; 10] = [
+const WRITER_SPOILS: [Spoil<Handed>; 11] = [
     (101, |handed| handed.header[1] = 2),
-    (102, |handed| handed.header[0] = 3),
-    (22, |handed| handed.header[0] = 2),
+    (102, |handed| handed.header[0] = 1),
     (23, |handed| handed.header[3] = 13),
     (24, |handed| handed.header[5] = 1_800_000_001),
     (24, |handed| handed.header[6] = -900_000_001),
     (25, |handed| handed.header[7] = 4),
     (20, |handed| handed.azimuths.push(0)),
     (26, |handed| handed.azimuths[0] = TURN),
+    (32, |handed| handed.header[0] = 2),
+    (32, |handed| handed.header[0] = CARRIED_OVER),
     (28, |handed| handed.size = BYTES - 1),
 ];
 
@@ -216,7 +224,8 @@ const WRITER_SPOILS: [Spoil<Handed>; 10] = [
 fn writer_fields() {
     let far = |number: i64| [8, 16, 32, 63].map(|bits| number.wrapping_add(1 << bits)).into_iter().chain([i64::MIN, i64::MAX, -1]);
     for (field, inside, outside, refusal) in [
-        (0, vec![0, 1], vec![3, 255], 102),
+        (0, vec![0], vec![1, 4, 255], 102),
+        (0, vec![0], vec![2, CARRIED_OVER], 32),
         (1, vec![0, 1], vec![2, 255], 101),
         (2, vec![1900, 2100], vec![1899, 2101, 0], 23),
         (3, vec![1, 12], vec![0, 13], 23),
@@ -226,9 +235,11 @@ fn writer_fields() {
         for number in inside {
             let mut header = GOOD;
             header[field] = number;
-            assert_eq!(strip_read(&written(&header, &azimuths())), (0, header));
+            assert_eq!(strip_read(&written(&header, &azimuths())), (0, as_read(&header)));
         }
-        for number in outside.into_iter().chain(far(GOOD[field])) {
+        // what is far from a known code is an unknown one
+        let far = far(GOOD[field]).filter(|_| refusal != 32);
+        for number in outside.into_iter().chain(far) {
             let mut handed = handed();
             handed.header[field] = number;
             not_written(handed, refusal);
@@ -238,7 +249,7 @@ fn writer_fields() {
         for number in [0, 1, -1, limit, -limit] {
             let mut header = GOOD;
             header[field] = number;
-            assert_eq!(strip_read(&written(&header, &azimuths())), (0, header));
+            assert_eq!(strip_read(&written(&header, &azimuths())), (0, as_read(&header)));
         }
         for number in [limit + 1, -limit - 1, GOOD[field] + (1 << 32), GOOD[field] - (1 << 32), i64::MIN, i64::MAX] {
             let mut handed = handed();
@@ -283,7 +294,7 @@ fn writer_azimuths() {
         for wrong in [STEPS, count - 1, count + 1] {
             not_written(Handed { header, azimuths: vec![0; wrong], size: 6_000 }, 20);
         }
-        assert_eq!(strip_read(&written(&header, &vec![0; count])), (0, header));
+        assert_eq!(strip_read(&written(&header, &vec![0; count])), (0, as_read(&header)));
         not_written(Handed { header, azimuths: vec![0; count], size: HEADER_BYTES + 4 * count - 1 }, 28);
     }
 }
@@ -341,8 +352,8 @@ fn finds_none(first: &[u8], second: &[u8], date: [i64; 3], refusal: u32) {
 }
 
 fn lookups() {
-    let (today, tomorrow) = (good(), written(&[1, 0, 2003, 10, 18, 0, 0, 5], &[7; 288]));
-    let also_today = written(&[1, 0, 2003, 10, 17, 0, 0, 2], &[8; 720]);
+    let (today, tomorrow) = (good(), old(written(&[0, 0, 2003, 10, 18, 0, 0, 5], &[7; 288])));
+    let also_today = old(written(&[0, 0, 2003, 10, 17, 0, 0, 2], &[8; 720]));
     finds(&today, &tomorrow, TODAY, 1);
     finds(&today, &tomorrow, TOMORROW, 2);
     finds(&tomorrow, &today, TODAY, 2);
@@ -421,7 +432,7 @@ fn days() {
 }
 
 fn main() {
-    assert_eq!(strip_read(&good()), (0, GOOD));
+    assert_eq!(strip_read(&good()), (0, as_read(&GOOD)));
     lengths();
     bytes_of_fields();
     years();
@@ -429,13 +440,16 @@ fn main() {
     points();
     azimuths_at_edges();
     first_of(&SPOILS, good, |bytes, refusal| refused(&bytes, refusal));
+    first_of(&SPOILS, || old(good()), |bytes, refusal| refused(&bytes, refusal));
     writer_fields();
     writer_extremes();
     writer_azimuths();
     buffers();
-    // air has one number, which is unknown or measured
-    first_of(&[&WRITER_SPOILS[..1], &WRITER_SPOILS[2..]].concat(), handed, not_written);
-    first_of(&[&WRITER_SPOILS[..2], &WRITER_SPOILS[3..]].concat(), handed, not_written);
+    // air has one number, which is unknown, measured or carried over
+    for air in [1, 8, 9] {
+        let others = (0..WRITER_SPOILS.len()).filter(|at| *at == air || ![1, 8, 9].contains(at));
+        first_of(&others.map(|at| WRITER_SPOILS[at]).collect::<Vec<_>>(), handed, not_written);
+    }
     steps();
     lookups();
     lookup_refusals();

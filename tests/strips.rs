@@ -1,4 +1,4 @@
-// Day strips (02, Item 6) through the archive: every line of tests/vectors/strips.txt; whole days at each step, there and back, their bytes those of the ordinary Rust version
+// Day strips (02, Items 6 and 9) through the archive: every line of tests/vectors/strips.txt; whole days at each step, there and back, their bytes those of the ordinary Rust version
 // (reference/); the days of tests/vectors/overhead.txt in which a body has no azimuth at a whole minute; and how long the largest strip takes.
 use std::env;
 use std::fs;
@@ -15,7 +15,7 @@ use strip_lines::{strip_lines, Said, StripLine};
 use vector_lines::{absent_minutes, ABSENT};
 
 // How many lines the file has that are read, written and looked up.
-const LINES: [usize; 3] = [123, 50, 23];
+const LINES: [usize; 3] = [143, 95, 29];
 
 const STEPS: [i64; 4] = [1, 2, 5, 10];
 const HEADER_BYTES: usize = 18;
@@ -54,13 +54,17 @@ fn check_line(line: &StripLine) -> usize {
 fn check_read(bytes: &[u8], expected: &Result<Said, u32>) {
     match expected {
         Ok(said) => {
-            assert_eq!(strip_read(bytes), (0, said.header), "{bytes:?}");
+            assert_eq!(strip_read(bytes), (0, as_read(&said.header)), "{bytes:?}");
             for (step, azimuth) in &said.azimuths {
                 assert_eq!(strip_azimuth(&bytes[HEADER_BYTES..], *step), (0, *azimuth), "{bytes:?} {step}");
             }
-            assert_eq!(written(&said.header, &azimuths_of(bytes, said.header[7])), bytes);
+            let azimuths = azimuths_of(bytes, said.header[7]);
+            match said.header[0] {
+                0 => assert_eq!(written(&said.header, &azimuths), bytes),
+                _ => carried_over_alone(&said.header, &azimuths, bytes),
+            }
         }
-        Err(refusal) => assert_eq!(strip_read(bytes), (*refusal, [POISON; 8]), "{bytes:?}"),
+        Err(refusal) => assert_eq!(strip_read(bytes), (*refusal, [POISON; 10]), "{bytes:?}"),
     }
 }
 
@@ -82,6 +86,22 @@ fn written(header: &Header, azimuths: &[u32]) -> Vec<u8> {
     bytes
 }
 
+// A strip with air byte 1 says what the same strip says without air, but for its air; it is refused by 32, before a small buffer, and written without air.
+fn carried_over_alone(header: &Header, azimuths: &[u32], bytes: &[u8]) {
+    let mut bare = *header;
+    bare[0] = 0;
+    let mut without = written(&bare, azimuths);
+    assert_eq!(strip_read(&without), (0, as_read(&bare)), "{header:?}");
+    without[3] = 1;
+    assert!(without == bytes && header[0] == CARRIED_OVER, "{header:?}: more than the air is another");
+    assert!(azimuths_of(bytes, header[7]) == azimuths, "{header:?}: other azimuths are read");
+    for size in [0, bytes.len() - 1, bytes.len(), bytes.len() + 1] {
+        let mut buffer = vec![POISON_BYTE; size];
+        assert_eq!(strip_write(header, azimuths, &mut buffer), (32, POISON), "{header:?}");
+        assert!(buffer == vec![POISON_BYTE; size], "{header:?}: written to, and refused");
+    }
+}
+
 // Each azimuth by its step, and none behind the last.
 fn azimuths_of(bytes: &[u8], step: i64) -> Vec<u32> {
     let (part, count) = (&bytes[HEADER_BYTES..], MINUTES as u64 / step as u64);
@@ -98,7 +118,7 @@ fn there_and_back(header: &Header, azimuths: &[u32]) {
     let mut expected = vec![POISON_BYTE; bytes.len()];
     reference_strips::strip_write(header, azimuths, &mut expected);
     assert!(bytes == expected, "{header:?}: other bytes than the reference's");
-    assert_eq!(strip_read(&bytes), (0, *header));
+    assert_eq!(strip_read(&bytes), (0, as_read(header)));
     let again = azimuths_of(&bytes, header[7]);
     assert!(again == azimuths, "{header:?}: other azimuths are read");
     assert!(written(header, &again) == bytes, "{header:?}: what was read is written otherwise");
@@ -106,7 +126,13 @@ fn there_and_back(header: &Header, azimuths: &[u32]) {
     let mut larger = vec![POISON_BYTE; bytes.len() + 9];
     assert_eq!(strip_write(header, azimuths, &mut larger), (0, bytes.len() as i64));
     assert!(larger == [&bytes[..], &[POISON_BYTE; 9]].concat(), "{header:?}: another rest");
-    assert_eq!(strip_read(&larger), (20, [POISON; 8]));
+    assert_eq!(strip_read(&larger), (20, [POISON; 10]));
+    let mut old = bytes;
+    old[3] = 1;
+    let mut carried_over = *header;
+    carried_over[0] = CARRIED_OVER;
+    assert_eq!(strip_read(&old), (0, as_read(&carried_over)));
+    carried_over_alone(&carried_over, azimuths, &old);
 }
 
 // ---- days
@@ -134,9 +160,7 @@ fn day(numbers: &[i64; 8], body: u32, step: i64) -> Vec<u32> {
         assert_eq!(*found, azimuth(numbers, at * step as usize, body), "{numbers:?} {body} {step} {at}");
     }
     let [year, month, day, _, _, longitude, latitude, _] = *numbers;
-    for air in [0, 1] {
-        there_and_back(&[air, body.into(), year, month, day, longitude, latitude, step], &azimuths);
-    }
+    there_and_back(&[0, body.into(), year, month, day, longitude, latitude, step], &azimuths);
     azimuths
 }
 
@@ -177,7 +201,7 @@ fn best(mut run: impl FnMut()) -> Duration {
 }
 
 fn largest() -> [Duration; 2] {
-    let header = [1, 1, 2003, 10, 17, -1_051_786_000, 397_424_760, 1];
+    let header = [0, 1, 2003, 10, 17, -1_051_786_000, 397_424_760, 1];
     let azimuths: Vec<u32> = (0..MINUTES as u32).map(|minute| 2_500_000 * minute).collect();
     let mut bytes = vec![0; HEADER_BYTES + 4 * MINUTES];
     let writing = best(|| assert_eq!(strip_write(&header, black_box(&azimuths), &mut bytes).0, 0));

@@ -32,7 +32,7 @@ pub fn body(name: &str) -> u32 {
 pub fn air(words: &[&str]) -> Air {
     match words {
         ["none"] => NO_AIR,
-        ["standard"] => STANDARD,
+        ["carried-over"] => carried_over(),
         ["measured", pressure, temperature] => measured(double(pressure), double(temperature)),
         _ => panic!("{words:?} is no air"),
     }

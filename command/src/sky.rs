@@ -130,12 +130,12 @@ pub fn middle(a_e8: i64, b_e8: i64) -> Result<i64, Failure> {
 // ---- strips
 
 /// The strip of the UTC date on which the view's moment lies.
-pub fn strip_of_day(view: View, body: Body, step_minutes: i64, air: StripAir) -> Result<Vec<u8>, Failure> {
+pub fn strip_of_day(view: View, body: Body, step_minutes: i64) -> Result<Vec<u8>, Failure> {
     let (date, point) = (view.date(), view.point());
     let mut azimuths_e7 = [0; DAY_MINUTES];
     let count = raddlehue::day_azimuths(date, body, point, step_minutes, &mut azimuths_e7)
         .map_err(|refusal| refused(refusal, view.moment))?;
-    let header = StripHeader::of(date, body, point, step_minutes, air.into());
+    let header = StripHeader::of(date, body, point, step_minutes);
     raddlehue::strip_to_vec(header, &azimuths_e7[..count]).map_err(refused_plainly)
 }
 

@@ -70,19 +70,15 @@ fn name(file: &str) -> String {
 #[test]
 fn the_file_is_the_strip() {
     let room = Room::of("the_file_is_the_strip");
-    for (index, (step, body, air)) in
-        [("1", "sun", "none"), ("2", "moon", "standard"), ("5", "moon", "none"), ("10", "sun", "standard")]
-            .into_iter()
-            .enumerate()
-    {
+    for (index, (step, body)) in [("1", "sun"), ("2", "moon"), ("5", "moon"), ("10", "sun")].into_iter().enumerate() {
         let file = room.file(step);
-        let words = ["strip", "make", body, "2003-10-17", "--step", step, "--air", air, "--out", &file];
+        let words = ["strip", "make", body, "2003-10-17", "--step", step, "--out", &file];
         let said = answer(&[&words, &BOULDER[..]].concat(), "");
         let bytes = fs::read(&file).unwrap();
         assert!(said.contains(&format!("\n{} bytes are written to {}", bytes.len(), name(&file))), "{said}");
         let minutes: usize = step.parse().unwrap();
         let length = (16 + 4 * (1440 / minutes)) as u16;
-        let codes = [u8::from(air == "standard"), u8::from(body == "moon")];
+        let codes = [0, u8::from(body == "moon")];
         let point = [(-1_051_786_000_i32).to_be_bytes(), 397_424_760_i32.to_be_bytes()].concat();
         let header = [&length.to_be_bytes()[..], &[1], &codes, &[7, 211, 10, 17], &point, &[minutes as u8]].concat();
         assert_eq!(bytes[..18], header, "{index}");
@@ -147,8 +143,9 @@ fn refused_words_make_no_file() {
     for step in ["", "ten", "2.5", "2,5", "1e1", "010", "0x5", "99999999999999999999"] {
         refused(&[&good[..], &BOULDER, &["--step", step]].concat(), 2, &[&format!("{step:?}")]);
     }
-    for air in ["", "None", "measured", "1", "standard "] {
-        refused(&[&good[..], &BOULDER, &["--air", air]].concat(), 2, &[&format!("the air {air:?} is unknown")]);
+    // The air of a strip is none, so that there is nothing to choose.
+    for air in ["none", "standard", "measured", "1"] {
+        refused(&[&good[..], &BOULDER, &["--air", air]].concat(), 2, &["\"--air\" is unknown"]);
     }
     with(&["--lat", "39,7", "--lon", "5"], 2, &["\"39,7\"", "with a point"]);
     with(&["--lat", "91", "--lon", "5"], 1, &["--lat \"91\": refused 8: "]);
@@ -205,14 +202,41 @@ fn a_strip_is_shown() {
     refused(&["strip", "show", &file, "--json", "--csv"], 2, &["only one"]);
 }
 
+// Made by a version that had standard air: byte 1 is still read, at every step, and nothing but the air is another.
+#[test]
+fn an_old_strip_says_what_was_carried_over() {
+    let room = Room::of("an_old_strip_says_what_was_carried_over");
+    for step in ["1", "2", "5", "10"] {
+        let bare = room.file(step);
+        answer(&[&["strip", "make", "moon", "2003-10-17", "--step", step, "--out", &bare], &BOULDER[..]].concat(), "");
+        let mut bytes = fs::read(&bare).unwrap();
+        bytes[3] = 1;
+        let old = room.put(&format!("{step}.old"), &bytes);
+        for (form, none, carried_over) in [
+            (None, "\nair none, ", "\nair measured at 1010 mbar and 10 degrees Celsius, carried over from an old strip, "),
+            (
+                Some("--json"),
+                "\"air\": \"none\"",
+                "\"air\": \"carried_over\", \"pressure_mbar\": 1010, \"temperature_celsius\": 10",
+            ),
+            (Some("--csv"), ",moon,none,", ",moon,carried_over,"),
+        ] {
+            let shown = |file| answer(&["strip", "show", file].into_iter().chain(form).collect::<Vec<_>>(), "");
+            assert!(shown(&bare).contains(none));
+            assert_eq!(shown(&old), shown(&bare).replace(none, carried_over));
+        }
+        assert!(answer(&["strip", "find", &old, &bare, "2003-10-17"], "").contains("\nair measured at 1010 mbar"));
+    }
+}
+
 #[test]
 fn an_absent_azimuth_is_none() {
     let room = Room::of("an_absent_azimuth_is_none");
     let file = room.file("oahu");
-    let words = ["strip", "make", "sun", "2027-05-28", "--step", "5", "--air", "standard", "--out", &file];
+    let words = ["strip", "make", "sun", "2027-05-28", "--step", "5", "--out", &file];
     assert!(answer(&[&words, &OAHU[..]].concat(), "").contains("; 1 of them is absent\n"));
     let text = answer(&["strip", "show", &file], "");
-    assert!(text.contains("\nair standard, which changes no azimuth\n288 azimuths, one every 5 minutes; 1 of them is absent\n"));
+    assert!(text.contains("\n288 azimuths, one every 5 minutes; 1 of them is absent\n"));
     assert!(text.contains("\nazimuth none where it is absent, as that of a body straight overhead or straight underfoot\n"));
     assert!(text.contains("\n22:30         none\n"), "{text}");
     let json = answer(&["strip", "show", &file, "--json"], "");

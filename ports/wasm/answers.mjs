@@ -8,7 +8,7 @@ import { NO_AZIMUTH_E7, NO_DIRECTION_E8, load } from './raddlehue.mjs';
 const sky = await load(readFileSync(process.argv[2]));
 const raw = sky.raw;
 const POISON = 0x5a5a5a5a5a5a5a5an;
-const [SIDE, ROOM, CELLS, MINUTES] = [2, 8, 10, 1440];
+const [SIDE, ROOM, CELLS, MINUTES] = [2, 10, 10, 1440];
 const [STRIP_HEADER, STRIP_ROOM] = [18, 5780];
 
 // beyond what raddlehue.mjs uses of the memory
@@ -157,7 +157,7 @@ function day(given, line) {
 
 // ---- strips: a line has the seed of the azimuths and one that is put among them, and for a strip the bytes of its header and how many there are in all
 
-const STRIP = ['air', 'body', 'year', 'month', 'day', 'longitude_e7', 'latitude_e7', 'step_minutes'];
+const STRIP = ['air_kind', 'body', 'year', 'month', 'day', 'longitude_e7', 'latitude_e7', 'step_minutes'];
 
 function drawnAzimuth([seed, at, azimuth], i) {
   const any = Number(BigInt.asUintN(64, (BigInt(seed) + BigInt(i)) * 0x9e3779b97f4a7c15n) >> 32n);
@@ -236,12 +236,14 @@ function stripWrite(given, line) {
 
 function stripRead(given, line) {
   const bytes = stripBytes(given);
-  const refusal = raw.raddlehue_strip_read(...lay(strips[0], bytes), lend());
-  const said = words(refusal, 8);
+  const numbers = lend();
+  const refusal = raw.raddlehue_strip_read(...lay(strips[0], bytes), numbers, numbers + 8 * STRIP.length);
+  const said = words(refusal, STRIP.length + 2);
   const list = drawnAzimuths(bytes.length - STRIP_HEADER, given.slice(2).map(code));
-  agree(line, refusal, sky.strip_read(bytes), ({ refusal: _, azimuths_e7, ...strip }) => {
-    const numbers = Object.values({ ...strip, air: strip.air.kind }).map((number) => hex(BigInt(number)));
-    return same(Object.keys(strip), STRIP) && same(numbers, said.slice(1)) && same(azimuths_e7, list);
+  agree(line, refusal, sky.strip_read(bytes), ({ refusal: _, air, azimuths_e7, ...strip }) => {
+    const { kind, pressure_mbar, temperature_celsius } = air;
+    const ours = [...Object.values({ kind, ...strip }).map(BigInt), bits(pressure_mbar), bits(temperature_celsius)].map(hex);
+    return same(Object.keys(strip), STRIP.slice(1)) && same(ours, said.slice(1)) && same(azimuths_e7, list);
   });
   return said;
 }

@@ -1,8 +1,9 @@
-// node ports/wasm/calls.mjs RADDLEHUE.WASM : raddlehue.mjs as a page uses it. Its own example, days by the minute against single places, a body without an azimuth, day strips, short strips,
-// eclipses, and what it has to throw at.
+// node ports/wasm/calls.mjs RADDLEHUE.WASM : raddlehue.mjs as a page uses it. Its own example, days by the minute against single places, a body without an azimuth, day strips, old ones too,
+// short strips, eclipses, and what it has to throw at.
 import assert from 'node:assert/strict';
 import { readFileSync } from 'node:fs';
-import { AIR_NONE, AIR_STANDARD, MOON, NO_AZIMUTH_E7, NO_DIRECTION_E8, SUN, load, measured } from './raddlehue.mjs';
+import * as door from './raddlehue.mjs';
+import { AIR_CARRIED_OVER_KIND, AIR_NONE, MOON, NO_AZIMUTH_E7, NO_DIRECTION_E8, SUN, load, measured, request_air } from './raddlehue.mjs';
 
 const bytes = readFileSync(process.argv[2]);
 const sky = await load(bytes);
@@ -22,10 +23,10 @@ await assert.rejects(load(new Response('', { status: 404 })), /404/);
 // an air, and a refusal, which has no other name beside it
 const shown = sky.shown_place(start, SUN, point, measured(820, 11));
 assert.ok(shown.refusal === 0 && shown.refraction_degrees > 0 && Math.abs(shown.azimuth_degrees - Number(azimuth_e8) / 1e8) < 1e-12);
-assert.deepEqual(sky.shown_place(start, SUN, point, AIR_STANDARD), sky.shown_place(start, SUN, point, measured(1010, 10)));
 assert.equal(sky.shown_place(start, SUN, point, AIR_NONE).refraction_degrees, 0);
-assert.ok(sky.refraction(-83337000, AIR_STANDARD).refraction_degrees > 0.6);
-assert.deepEqual(sky.refraction(-83337001, AIR_STANDARD), { refusal: 0, refraction_degrees: 0 });
+assert.deepEqual(sky.shown_place(start, SUN, point), sky.shown_place(start, SUN, point, AIR_NONE));
+assert.ok(sky.refraction(-83337000, measured(1010, 10)).refraction_degrees > 0.6);
+assert.deepEqual(sky.refraction(-83337001, measured(1010, 10)), { refusal: 0, refraction_degrees: 0 });
 assert.deepEqual(sky.place({ ...start, year: 2101n }, SUN, point), { refusal: 1 });
 assert.deepEqual(sky.place(start, 2, point), { refusal: 101 });
 assert.deepEqual(sky.place(start, SUN, point, measured(NaN, 11)), { refusal: 10 });
@@ -46,7 +47,7 @@ assert.deepEqual(sky.batch_ms(start, SUN, point, []).azimuths_e8, new BigInt64Ar
 const noon = { ...start, year: 2005, month: 7, day: 18, hour: 22, minute: 32, second: 59, delta_t_ms: 64700 };
 const lahaina = { longitude_e7: -1566828813, latitude_e7: 208783487, height_metres: 0 };
 assert.deepEqual(sky.place(noon, SUN, lahaina), { refusal: 0, elevation_e8: 8999999993n });
-assert.deepEqual(Object.keys(sky.shown_place(noon, SUN, lahaina, AIR_STANDARD)), ['refusal', 'elevation_degrees', 'refraction_degrees']);
+assert.deepEqual(Object.keys(sky.shown_place(noon, SUN, lahaina, measured(1010, 10))), ['refusal', 'elevation_degrees', 'refraction_degrees']);
 const [east, overhead, west] = sky.batch_ms({ ...noon, second: 58, fraction_ms: 900 }, SUN, lahaina, [0, 100, 200]).azimuths_e8;
 assert.deepEqual([east, overhead, west], [8999156196n, NO_DIRECTION_E8, 26995783452n]);
 assert.deepEqual(sky.middle(east, overhead), { refusal: 15 });
@@ -101,7 +102,39 @@ assert.deepEqual(sky.strip_write(read, [...read.azimuths_e7]), { refusal: 0, byt
 const longer = Uint8Array.from([9, ...strip, 9]);
 assert.deepEqual(sky.strip_read(longer.subarray(1, 595)), read);
 assert.deepEqual(sky.strip_read(Buffer.from(strip)), read);
-assert.deepEqual(sky.strip_read(sky.strip_write({ ...header, air: AIR_STANDARD, body: SUN, year: 2003n }, azimuths_e7).bytes).air, AIR_STANDARD);
+assert.deepEqual(sky.strip_read(sky.strip_write({ ...header, body: SUN, year: 2003n }, azimuths_e7).bytes), { ...read, body: SUN });
+
+// no request takes a strip's air with the mark, or an unknown kind
+function refuse_air(air) {
+  assert.deepEqual(sky.place(start, SUN, point, air), { refusal: 102 });
+  assert.deepEqual(sky.shown_place(start, SUN, point, air), { refusal: 102 });
+  assert.deepEqual(sky.refraction(0, air), { refusal: 102 });
+}
+
+// an old strip, whose air byte is 1, at every step: measured air with the mark that it was carried over; it is not written again
+for (const step_minutes of [1, 2, 5, 10]) {
+  const { azimuths_e7 } = sky.day_azimuths(date, MOON, point, step_minutes);
+  const { bytes: new_strip } = sky.strip_write({ ...header, step_minutes }, azimuths_e7);
+  const old_strip = new_strip.map((byte, i) => (i === 3 ? 1 : byte));
+  const read = sky.strip_read(old_strip);
+  const { air } = read;
+  assert.deepEqual(air, { kind: AIR_CARRIED_OVER_KIND, pressure_mbar: 1010, temperature_celsius: 10 });
+  assert.ok(Object.isFrozen(air));
+  assert.deepEqual(read, { refusal: 0, ...header, air, step_minutes, azimuths_e7 });
+  assert.deepEqual(request_air(air), measured(1010, 10));
+  // 01's vector in standard air
+  assert.deepEqual(sky.refraction(0, request_air(air)), { refusal: 0, refraction_degrees: 0.48303212705241616 });
+  assert.deepEqual(sky.shown_place(start, SUN, point, request_air(air)), sky.shown_place(start, SUN, point, measured(1010, 10)));
+  refuse_air(air);
+  assert.deepEqual(sky.strip_write(read, azimuths_e7), { refusal: 32 });
+  assert.deepEqual(sky.strip_write({ ...read, air: request_air(air) }, azimuths_e7), { refusal: 32 });
+  assert.deepEqual(sky.strip_write({ ...read, air: AIR_NONE }, azimuths_e7), { refusal: 0, bytes: new_strip });
+  assert.equal(new_strip[3], 0);
+}
+assert.equal(read.air, AIR_NONE);
+assert.equal(request_air(read.air), AIR_NONE);
+assert.deepEqual(request_air(measured(820, 11)), measured(820, 11));
+for (const kind of [1, 4]) refuse_air(request_air({ kind, pressure_mbar: 1010, temperature_celsius: 10 }));
 
 // the largest strip, which has a step to each minute, beside it: whichever bears the date, and the first if both do
 const minutes = sky.day_azimuths({ ...date, day: 18 }, MOON, point, 1).azimuths_e7;
@@ -117,13 +150,15 @@ assert.deepEqual(sky.strip_find(strip, next, 2003, 10, 19), { refusal: 27 });
 assert.deepEqual(sky.strip_find(strip, next.slice(1), 2003, 10, 17), { refusal: 20 });
 
 // refusals of strips, and what is thrown at
-assert.deepEqual(sky.strip_write({ ...header, air: measured(820, 11) }, azimuths_e7), { refusal: 22 });
-assert.deepEqual(sky.strip_write({ ...header, air: { kind: 3 } }, azimuths_e7), { refusal: 102 });
+assert.deepEqual(sky.strip_write({ ...header, air: measured(820, 11) }, azimuths_e7), { refusal: 32 });
+assert.deepEqual(sky.strip_write({ ...header, air: measured(820, 11), month: 13 }, azimuths_e7), { refusal: 23 });
+for (const kind of [1, 4]) assert.deepEqual(sky.strip_write({ ...header, air: { kind }, month: 13 }, azimuths_e7), { refusal: 102 });
 assert.deepEqual(sky.strip_write({ ...header, step_minutes: 5 }, azimuths_e7), { refusal: 20 });
 assert.deepEqual(sky.strip_write(header, []), { refusal: 20 });
 assert.deepEqual(sky.strip_write(header, azimuths_e7.map(() => 3600000000)), { refusal: 26 });
 assert.deepEqual(sky.strip_read(new Uint8Array(0)), { refusal: 20 });
 assert.deepEqual(sky.strip_read(strip.map((byte, i) => (i === 2 ? 2 : byte))), { refusal: 21 });
+for (const air of [2, 3, 255]) assert.deepEqual(sky.strip_read(strip.map((byte, i) => (i === 3 ? air : byte))), { refusal: 22 });
 assert.deepEqual([sky.strip_azimuth(today.azimuths, 144), sky.strip_azimuth(today.azimuths, 2n ** 62n)], [{ refusal: 106 }, { refusal: 106 }]);
 for (const wrong of [[...strip], strip.buffer, 'strip', undefined]) {
   assert.throws(() => sky.strip_read(wrong), TypeError);
@@ -228,4 +263,10 @@ const { delta_t_ms, ...without } = start;
 assert.throws(() => sky.place({ ...without, delta_t_tenths: 670 }, SUN, point), TypeError);
 assert.throws(() => sky.day({ year: 2003, month: 10, day: 17, ut1_tenths: 0, delta_t_tenths: 670 }, SUN, point), TypeError);
 for (const name of ['batch', 'moon_sums', 'sun_sums', 'nutation', 'mean_sidereal']) assert.equal(sky[name], undefined);
+
+// what was written for version 4, in standard air, is neither a request nor a strip: its name is gone, and not taken for an air that is left out
+assert.ok(!('AIR_STANDARD' in door));
+for (const call of ['place', 'shown_place']) assert.throws(() => sky[call](start, SUN, point, door.AIR_STANDARD), TypeError);
+assert.throws(() => sky.refraction(0, door.AIR_STANDARD), TypeError);
+assert.throws(() => sky.strip_write({ ...header, air: door.AIR_STANDARD }, azimuths_e7), TypeError);
 console.log('wasm: the calls of raddlehue.mjs do as they say');

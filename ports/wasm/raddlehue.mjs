@@ -12,6 +12,7 @@
  * are milliseconds, _millionths are of the Sun's disk). Whole numbers may be given as Number or BigInt and come back as BigInt, exact; minutes, degrees, mbar and
  * degrees Celsius are Numbers, and so is all that a strip holds. What is no whole number, or none of 64 bits, is a TypeError or a RangeError; every other number may be given, and what
  * cannot be answered is refused. Since version 4 times are milliseconds, under names of their own; an object with the names of version 3, which counted tenths of a second, is a TypeError.
+ * Since version 5 there is no standard air: an air is AIR_NONE or measured(pressure_mbar, temperature_celsius), and an undefined one, as AIR_STANDARD is by now, is a TypeError.
  *
  *     place(start, body, point[, air])         azimuth_e8, which may be missing, elevation_e8
  *     shown_place(start, body, point[, air])   azimuth_degrees, which may be missing, elevation_degrees, refraction_degrees
@@ -24,8 +25,10 @@
  *                                              azimuths_e7: a Uint32Array, the azimuth at each step of the date from 00:00 UTC on, rounded down, for a strip; where there is none
  *                                              its entry is NO_AZIMUTH_E7. The step is 1, 2, 5 or 10 minutes
  *     strip_write(strip, azimuths_e7)          bytes: a Uint8Array, to be sent. A strip is { air, body, year, month, day, longitude_e7, latitude_e7, step_minutes }, its air
- *                                              AIR_NONE or AIR_STANDARD; its azimuths are a Uint32Array or a list, one for each step
- *     strip_read(bytes)                        air, body, year, month, day, longitude_e7, latitude_e7, step_minutes: a strip; and azimuths_e7, a Uint32Array. Bytes are a Uint8Array
+ *                                              AIR_NONE: measured air, carried over or not, is refused by 32; its azimuths are a Uint32Array or a list, one for each step
+ *     strip_read(bytes)                        air, body, year, month, day, longitude_e7, latitude_e7, step_minutes: a strip; and azimuths_e7, a Uint32Array. Bytes are a Uint8Array.
+ *                                              The air of an old strip, which was standard, is measured with the mark that it was carried over, { kind: AIR_CARRIED_OVER_KIND,
+ *                                              pressure_mbar: 1010, temperature_celsius: 10 }: a request refuses it by 102, and request_air(air) is the same air for a request
  *     strip_find(first, second, year, month, day)
  *                                              strip: 1 or 2, whichever of two strips' bytes bears the date, the first if both do; azimuths: a Uint8Array, its azimuth bytes
  *     strip_azimuth(azimuths, step)            azimuth_e7, which may be missing: of a step, counted from 0, in such azimuth bytes
@@ -62,15 +65,21 @@ export const NO_DIRECTION_E8 = 2n ** 63n - 1n;
 /* What stands in a strip's azimuths where there is none. */
 export const NO_AZIMUTH_E7 = 2 ** 32 - 1;
 
-/* The air of a request; measured(pressure_mbar, temperature_celsius) makes the third kind. */
+/* The air of a request; measured(pressure_mbar, temperature_celsius) makes the other kind. (Kind 1 was standard air before version 5; it is refused by 102.) */
 export const AIR_NONE = Object.freeze({ kind: 0, pressure_mbar: 0, temperature_celsius: 0 });
-export const AIR_STANDARD = Object.freeze({ kind: 1, pressure_mbar: 0, temperature_celsius: 0 });
 export const measured = (pressure_mbar, temperature_celsius) => ({ kind: 2, pressure_mbar, temperature_celsius });
+
+/* The kind of a strip's air where it was carried over from an old strip: measured air, with this mark. No request has it. */
+export const AIR_CARRIED_OVER_KIND = 3;
+
+/* The air of a request at the place of a strip: none, or measured at the same pressure and temperature. This is where the mark is left behind. */
+export const request_air = (air) => (air.kind === AIR_CARRIED_OVER_KIND ? measured(air.pressure_mbar, air.temperature_celsius) : air);
 
 const START = ['year', 'month', 'day', 'hour', 'minute', 'second', 'fraction_ms', 'ut1_ms', 'delta_t_ms'];
 const DATE = ['year', 'month', 'day', 'ut1_ms', 'delta_t_ms'];
 const POINT = ['longitude_e7', 'latitude_e7', 'height_metres'];
-const STRIP = ['air', 'body', 'year', 'month', 'day', 'longitude_e7', 'latitude_e7', 'step_minutes'];
+// C's names; an object has `air` for the first, with the numbers beside its kind
+const STRIP = ['air_kind', 'body', 'year', 'month', 'day', 'longitude_e7', 'latitude_e7', 'step_minutes'];
 const STRIP_HEADER = 18;
 const MINUTES = 1440;
 
@@ -204,7 +213,9 @@ class Raddlehue {
     return this.#answered(refusal, names, 'getFloat64');
   }
 
-  #request(start, body, point, air) {
+  /* An air that is left out is none. One that is undefined was not left out, and throws: AIR_STANDARD of version 4 would be shown without refraction. */
+  #request(start, body, point, airs) {
+    const air = airs.length === 0 ? AIR_NONE : airs[0];
     return [
       this.#start(start), code(body, 'body'), this.#point(point),
       code(air.kind, 'air'), Number(air.pressure_mbar), Number(air.temperature_celsius), this.#hasAzimuth, this.#answer];
@@ -216,12 +227,12 @@ class Raddlehue {
     return answer;
   }
 
-  place(start, body, point, air = AIR_NONE) {
+  place(start, body, point, ...air) {
     const refusal = this.#raw.raddlehue_place(...this.#request(start, body, point, air)) >>> 0;
     return this.#ifAny(this.#units(refusal, 'azimuth_e8', 'elevation_e8'), 'azimuth_e8');
   }
 
-  shown_place(start, body, point, air = AIR_NONE) {
+  shown_place(start, body, point, ...air) {
     const refusal = this.#raw.raddlehue_shown_place(...this.#request(start, body, point, air)) >>> 0;
     return this.#ifAny(this.#doubles(refusal, 'azimuth_degrees', 'elevation_degrees', 'refraction_degrees'), 'azimuth_degrees');
   }
@@ -276,7 +287,7 @@ class Raddlehue {
     const [bytes, azimuths] = [this.#room(length, 4 * list.length), this.#room(4 * list.length)];
     const view = this.#memory(256);
     list.forEach((azimuth, i) => view.setUint32(azimuths + 4 * i, azimuth, true));
-    const header = this.#put(this.#base, STRIP, { ...strip, air: code(strip.air.kind, 'air'), body: code(strip.body, 'body') });
+    const header = this.#put(this.#base, STRIP, { ...strip, air_kind: code(strip.air.kind, 'air'), body: code(strip.body, 'body') });
     const refusal = this.#raw.raddlehue_strip_write(header, azimuths, BigInt(list.length), bytes, BigInt(length), this.#answer) >>> 0;
     const answer = { refusal };
     if (refusal === 0) answer.bytes = new Uint8Array(this.#raw.memory.buffer.slice(bytes, bytes + this.#count()));
@@ -285,14 +296,16 @@ class Raddlehue {
 
   strip_read(bytes) {
     const at = this.#lay(bytes, 'bytes');
-    const answer = this.#units(this.#raw.raddlehue_strip_read(at, BigInt(bytes.length), this.#answer) >>> 0, ...STRIP);
-    if (answer.refusal === 0) {
-      for (const name of STRIP) answer[name] = Number(answer[name]);
-      answer.air = answer.air === AIR_NONE.kind ? AIR_NONE : AIR_STANDARD;
-      const view = this.#memory(256);
-      answer.azimuths_e7 = Uint32Array.from({ length: MINUTES / answer.step_minutes }, (_, step) => view.getUint32(at + STRIP_HEADER + 4 * step));
-    }
-    return answer;
+    // the two doubles of its air lie behind the strip's numbers
+    const doubles = this.#answer + 8 * STRIP.length;
+    const { refusal, air_kind, ...strip } = this.#units(this.#raw.raddlehue_strip_read(at, BigInt(bytes.length), this.#answer, doubles) >>> 0, ...STRIP);
+    if (refusal !== 0) return { refusal };
+    const view = this.#memory(256);
+    const [kind, pressure_mbar, temperature_celsius] = [Number(air_kind), view.getFloat64(doubles, true), view.getFloat64(doubles + 8, true)];
+    const air = kind === AIR_NONE.kind ? AIR_NONE : Object.freeze({ kind, pressure_mbar, temperature_celsius });
+    for (const name in strip) strip[name] = Number(strip[name]);
+    const azimuths_e7 = Uint32Array.from({ length: MINUTES / strip.step_minutes }, (_, step) => view.getUint32(at + STRIP_HEADER + 4 * step));
+    return { refusal, air, ...strip, azimuths_e7 };
   }
 
   strip_find(first, second, year, month, day) {

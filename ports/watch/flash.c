@@ -15,6 +15,7 @@ static raddlehue_eclipse_t eclipse;
 static uint32_t day_azimuths[RADDLEHUE_STRIP_STEPS(1)];
 static uint8_t first[RADDLEHUE_STRIP_BYTES(1)], second[RADDLEHUE_STRIP_BYTES(1)];
 static raddlehue_strip_t strip;
+static raddlehue_strip_measured_t measured;
 static raddlehue_strip_part_t part;
 static uint64_t count;
 static volatile double degrees;
@@ -31,7 +32,7 @@ int main(void) {
 #ifdef STRIPS
     kept = raddlehue_day_azimuths(&date, kept, &point, kept, day_azimuths, RADDLEHUE_STRIP_STEPS(1), &count);
     kept = raddlehue_strip_write(&strip, day_azimuths, RADDLEHUE_STRIP_STEPS(1), first, sizeof first, &count);
-    kept = raddlehue_strip_read(second, sizeof second, &strip);
+    kept = raddlehue_strip_read(second, sizeof second, &strip, &measured);
     kept = raddlehue_strip_find(first, sizeof first, second, sizeof second, kept, kept, kept, &part);
     kept = raddlehue_strip_azimuth(second, sizeof second, kept, day_azimuths);
 #endif
@@ -46,7 +47,7 @@ int main(void) {
     (void)date, (void)curve, (void)rise_set, (void)eclipse, (void)has_azimuth;
 #endif
 #ifndef STRIPS
-    (void)day_azimuths, (void)first, (void)second, (void)strip, (void)part, (void)count;
+    (void)day_azimuths, (void)first, (void)second, (void)strip, (void)measured, (void)part, (void)count;
 #endif
     return 0;
 }

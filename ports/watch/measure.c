@@ -37,6 +37,7 @@ static double degrees;
 static uint32_t day_azimuths[RADDLEHUE_STRIP_STEPS(1)], strip_azimuth;
 static int64_t step;
 static raddlehue_strip_t strip;
+static raddlehue_strip_measured_t measured;
 static uint8_t first[RADDLEHUE_STRIP_BYTES(1)], second[RADDLEHUE_STRIP_BYTES(1)];
 static raddlehue_strip_part_t part;
 static uint64_t count;
@@ -58,7 +59,7 @@ static void a_plan(void) { kept = raddlehue_plan(&planned_date, body, &planned_p
 static void a_judge(void) { kept = raddlehue_judge(&planned_date, body, &planned_point, TOLERANCE, day_azimuths, count, curve, count, &out_minute); }
 static void azimuths_of_a_day(void) { kept = raddlehue_day_azimuths(&date, body, point, step, day_azimuths, RADDLEHUE_STRIP_STEPS(1), &count); }
 static void a_strip_write(void) { kept = raddlehue_strip_write(&strip, day_azimuths, RADDLEHUE_STRIP_STEPS(1), first, sizeof first, &count); }
-static void a_strip_read(void) { kept = raddlehue_strip_read(second, sizeof second, &strip); }
+static void a_strip_read(void) { kept = raddlehue_strip_read(second, sizeof second, &strip, &measured); }
 /* the second bears the date, so that both are looked at */
 static void a_strip_find(void) { kept = raddlehue_strip_find(first, sizeof first, second, sizeof second, strip.year, strip.month, strip.day, &part); }
 static void a_strip_azimuth(void) {
@@ -137,7 +138,7 @@ static void row(const char *name, void (*call)(void), int turns, uint32_t each) 
 
 /* The largest strip written, read, looked up and asked for an azimuth. A second one of it, of the day after, is made of the first: only the day's byte differs. */
 static void strip_rows(void) {
-    strip = (raddlehue_strip_t){RADDLEHUE_AIR_STANDARD, RADDLEHUE_MOON, 2003, 10, 17, -1051786000, 397424760, 1};
+    strip = (raddlehue_strip_t){RADDLEHUE_AIR_NONE, RADDLEHUE_MOON, 2003, 10, 17, -1051786000, 397424760, 1};
     row("strip_write", a_strip_write, REQUESTS, 1);
     __builtin_memcpy(second, first, sizeof second);
     second[8]++;

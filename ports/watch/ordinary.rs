@@ -23,11 +23,15 @@ fn body_of(body: u32) -> Body {
     }
 }
 
+fn is_air(kind: u32) -> bool {
+    kind == 0 || kind == 2
+}
+
 fn air_of(kind: u32, pressure: f64, temperature: f64) -> Air {
-    match kind {
-        0 => Air::None,
-        1 => Air::Standard,
-        _ => Air::Measured(pressure, temperature),
+    if kind == 0 {
+        Air::None
+    } else {
+        Air::Measured(pressure, temperature)
     }
 }
 
@@ -60,7 +64,7 @@ pub extern "C" fn raddlehue_place(
     if body > 1 {
         return 101;
     }
-    if air > 2 {
+    if !is_air(air) {
         return 102;
     }
     let found = place(start_of(start), body_of(body), point_of(point), air_of(air, pressure, temperature));
@@ -75,7 +79,7 @@ pub extern "C" fn raddlehue_shown_place(
     if body > 1 {
         return 101;
     }
-    if air > 2 {
+    if !is_air(air) {
         return 102;
     }
     let found = shown_place(start_of(start), body_of(body), point_of(point), air_of(air, pressure, temperature));
@@ -153,20 +157,29 @@ pub unsafe extern "C" fn raddlehue_strip_write(
     if !(0..=1).contains(&body) {
         return 101;
     }
-    if !(0..=2).contains(&air) {
-        return 102;
-    }
-    let strip = Strip { air: air_of(air as u32, 0.0, 0.0), body: body_of(body as u32), year, month, day, longitude, latitude, step };
+    let air = match air {
+        0 => StripAir::None,
+        2 => StripAir::Measured(0.0, 0.0),
+        3 => StripAir::CarriedOver(0.0, 0.0),
+        _ => return 102,
+    };
+    let strip = Strip { air, body: body_of(body as u32), year, month, day, longitude, latitude, step };
     let (azimuths, bytes) = unsafe { (list(azimuths, azimuths_length), buffer(bytes, bytes_length)) };
     write(write_strip(&strip, azimuths, bytes).map(|count| count as u64), lent)
 }
 
 #[no_mangle]
-pub unsafe extern "C" fn raddlehue_strip_read(bytes: *const u8, bytes_length: u64, lent: &mut [i64; 8]) -> u32 {
+pub unsafe extern "C" fn raddlehue_strip_read(bytes: *const u8, bytes_length: u64, lent: &mut [i64; 8], measured: &mut [f64; 2]) -> u32 {
     let found = read_strip(unsafe { list(bytes, bytes_length) });
     let numbers = found.map(|(strip, _)| {
         let Strip { air, body, year, month, day, longitude, latitude, step } = strip;
-        [i64::from(air == Air::Standard), i64::from(body == Body::Moon), year, month, day, longitude, latitude, step]
+        let (kind, doubles) = match air {
+            StripAir::None => (0, [0.0, 0.0]),
+            StripAir::Measured(pressure, temperature) => (2, [pressure, temperature]),
+            StripAir::CarriedOver(pressure, temperature) => (3, [pressure, temperature]),
+        };
+        *measured = doubles;
+        [kind, i64::from(body == Body::Moon), year, month, day, longitude, latitude, step]
     });
     write(numbers, lent)
 }
@@ -345,7 +358,7 @@ pub extern "C" fn raddlehue_middle(a: i64, b: i64, lent: &mut i64) -> u32 {
 
 #[no_mangle]
 pub extern "C" fn raddlehue_refraction(elevation: i64, air: u32, pressure: f64, temperature: f64, lent: &mut f64) -> u32 {
-    if air > 2 {
+    if !is_air(air) {
         return 102;
     }
     if !(-QUARTER_TURN..=QUARTER_TURN).contains(&elevation) {

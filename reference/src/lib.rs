@@ -47,5 +47,5 @@ pub use refraction::refraction;
 pub use request::{Air, Body, Point, Start};
 pub use sheet::{sheet, sheet_line};
 pub use sidereal::mean_sidereal;
-pub use strip::{day_azimuths, find_strip, read_strip, strip_azimuth, write_strip, Strip, NO_AZIMUTH};
+pub use strip::{day_azimuths, find_strip, read_strip, strip_azimuth, write_strip, Strip, StripAir, NO_AZIMUTH};
 pub use sun::{sun, Sun};

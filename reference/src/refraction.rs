@@ -13,7 +13,6 @@ const LOWEST_REFRACTED: i64 = -83_337_000;
 pub fn refraction(elevation: i64, air: Air) -> f64 {
     let (pressure, temperature) = match air {
         Air::None => return 0.0,
-        Air::Standard => (1010.0, 10.0),
         Air::Measured(pressure, temperature) => (pressure, temperature),
     };
     if elevation < LOWEST_REFRACTED {

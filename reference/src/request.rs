@@ -43,8 +43,6 @@ pub struct Point {
 pub enum Air {
     /// No refraction.
     None,
-    /// 1010 mbar and 10 °C.
-    Standard,
     /// Pressure in mbar and temperature in °C.
     Measured(f64, f64),
 }

@@ -1,7 +1,9 @@
-//! Day strips to and from the phone: a day's azimuths as bytes (document 02, Item 6).
+//! Day strips to and from the phone: a day's azimuths as bytes (document 02, Item 6; their air, Item 9).
 //!
 //! All numbers are big-endian. A length of all that follows (2 bytes); version (1), air (1), body (1), year (2),
 //! month (1), day (1), longitude (4), latitude (4), step (1); then an azimuth (4) for each step from minute 0.
+//!
+//! Air byte 0 is none. Byte 1 was standard air; strips that hold it are still read, but it is never written again.
 
 use crate::calendar::day_count;
 use crate::day::{midnight, Date, MINUTE, MINUTES};
@@ -20,12 +22,35 @@ const LENGTH_BYTES: usize = 2;
 const LEAST_LENGTH: usize = 16;
 
 const VERSION: u64 = 1;
+const NO_AIR: u64 = 0;
 const AZIMUTH_BYTES: usize = 4;
+
+/// The air of a strip. Only a strip without air is written.
+#[derive(Clone, Copy, Debug, PartialEq)]
+pub enum StripAir {
+    None,
+    /// Pressure in mbar and temperature in °C.
+    Measured(f64, f64),
+    /// Likewise, with the mark that it was carried over: a strip's byte 1 says so, and no barometer measured it.
+    CarriedOver(f64, f64),
+}
+
+/// The air of a request. Air that was carried over bends the light like air that was measured so.
+impl From<StripAir> for Air {
+    fn from(air: StripAir) -> Self {
+        match air {
+            StripAir::None => Air::None,
+            StripAir::Measured(pressure, temperature) | StripAir::CarriedOver(pressure, temperature) => {
+                Air::Measured(pressure, temperature)
+            }
+        }
+    }
+}
 
 /// What a strip says beside its azimuths.
 #[derive(Clone, Copy, Debug, PartialEq)]
 pub struct Strip {
-    pub air: Air,
+    pub air: StripAir,
     pub body: Body,
     /// 1900 to 2100.
     pub year: i64,
@@ -87,10 +112,11 @@ fn signed(bits: u64) -> i64 {
     }
 }
 
-fn read_air(byte: u64) -> Option<Air> {
+/// Byte 1 was standard air: 1010 mbar and 10 °C.
+fn read_air(byte: u64) -> Option<StripAir> {
     match byte {
-        0 => Some(Air::None),
-        1 => Some(Air::Standard),
+        NO_AIR => Some(StripAir::None),
+        1 => Some(StripAir::CarriedOver(1010.0, 10.0)),
         _ => None,
     }
 }
@@ -107,14 +133,9 @@ fn read_body(byte: u64) -> Option<Body> {
 
 /// Writes the strip from the buffer's start on, and gives its count of bytes; what lies behind keeps its contents.
 ///
-/// A refusal is its number: 22 for measured air, 23 to 25, 20 for another number of azimuths than the step has, 26,
-/// then 28 for a buffer that is too small. A refused strip writes nothing.
+/// A refusal is its number: 23 to 25, 20 for another number of azimuths than the step has, 26, then 32 for air that is
+/// measured or carried over, then 28 for a buffer that is too small. A refused strip writes nothing.
 pub fn write_strip(strip: &Strip, azimuths: &[u32], buffer: &mut [u8]) -> Result<usize, u8> {
-    let air = match strip.air {
-        Air::None => 0,
-        Air::Standard => 1,
-        Air::Measured(..) => return Err(22),
-    };
     let body = match strip.body {
         Body::Sun => 0,
         Body::Moon => 1,
@@ -126,9 +147,12 @@ pub fn write_strip(strip: &Strip, azimuths: &[u32], buffer: &mut [u8]) -> Result
         return Err(20);
     }
     check_azimuths(azimuths.iter().copied())?;
+    if strip.air != StripAir::None {
+        return Err(32);
+    }
     let length = LEAST_LENGTH + AZIMUTH_BYTES * azimuths.len();
     let mut rest = buffer.get_mut(..LENGTH_BYTES + length).ok_or(28)?;
-    for (number, count) in [(length as i64, LENGTH_BYTES), (VERSION as i64, 1), (air, 1), (body, 1)] {
+    for (number, count) in [(length as i64, LENGTH_BYTES), (VERSION as i64, 1), (NO_AIR as i64, 1), (body, 1)] {
         put(&mut rest, number, count);
     }
     for (number, count) in [(year, 2), (month, 1), (day, 1), (longitude, 4), (latitude, 4), (step, 1)] {

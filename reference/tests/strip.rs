@@ -1,5 +1,5 @@
-//! Day strips: every line of the vectors, there and back at each step, the first refusal in order, and a day's azimuths
-//! against its places one by one.
+//! Day strips: every line of the vectors, there and back at each step, old strips, whose air is carried over, the first
+//! refusal in order, and a day's azimuths against its places one by one.
 
 use raddlehue_reference::*;
 
@@ -15,8 +15,11 @@ const BODIES: [Body; 2] = [Body::Sun, Body::Moon];
 const STEPS: [i64; 4] = [1, 2, 5, 10];
 const TURN: u32 = 3_600_000_000;
 
+const MEASURED: StripAir = StripAir::Measured(820.0, 11.0);
+const CARRIED_OVER: StripAir = StripAir::CarriedOver(1010.0, 10.0);
+
 const STRIP: Strip = Strip {
-    air: Air::Standard,
+    air: StripAir::None,
     body: Body::Moon,
     year: 2003,
     month: 10,
@@ -35,18 +38,27 @@ fn written(strip: &Strip, azimuths: &[u32]) -> Vec<u8> {
 
 // ---- the vectors
 
-/// A strip of a line's numbers, where its codes are known.
-fn strip_of([air, body, year, month, day, longitude, latitude, step]: [i64; 8]) -> Option<Strip> {
-    let air = *[Air::None, Air::Standard, Air::Measured(820.0, 11.0)].get(usize::try_from(air).ok()?)?;
-    let body = *BODIES.get(usize::try_from(body).ok()?)?;
-    Some(Strip { air, body, year, month, day, longitude, latitude, step })
+/// A strip of a line's numbers, or C's own refusal of an unknown code: 101 for the body's, then 102 for the air's.
+fn strip_of([air, body, year, month, day, longitude, latitude, step]: [i64; 8]) -> Result<Strip, u32> {
+    let body = match body {
+        0 => Body::Sun,
+        1 => Body::Moon,
+        _ => return Err(101),
+    };
+    let air = match air {
+        0 => StripAir::None,
+        2 => MEASURED,
+        3 => CARRIED_OVER,
+        _ => return Err(102),
+    };
+    Ok(Strip { air, body, year, month, day, longitude, latitude, step })
 }
 
 fn check_line(line: StripLine) {
     match line {
         StripLine::Read { bytes, expected } => match (read_strip(&bytes), expected) {
             (Ok((strip, part)), Ok(said)) => {
-                assert_eq!(Some(strip), strip_of(said.header));
+                assert_eq!(Ok(strip), strip_of(said.header));
                 for (step, azimuth) in said.azimuths {
                     assert_eq!(strip_azimuth(part, step), Ok(azimuth), "{step}");
                 }
@@ -54,11 +66,9 @@ fn check_line(line: StripLine) {
             (found, expected) => assert_eq!(found.err().map(u32::from), expected.err(), "{bytes:?}"),
         },
         StripLine::Write { header, azimuths, size, expected } => {
-            let Some(strip) = strip_of(header) else {
-                return assert!(matches!(expected, Err(101 | 102)), "{header:?}");
-            };
             let mut bytes = vec![7; size];
-            let found = write_strip(&strip, &azimuths, &mut bytes).map_err(u32::from);
+            let found =
+                strip_of(header).and_then(|strip| write_strip(&strip, &azimuths, &mut bytes).map_err(u32::from));
             assert_eq!(found, expected.as_ref().map(Vec::len).map_err(|&refusal| refusal), "{header:?} {size}");
             let mut left = expected.unwrap_or_default();
             left.resize(size, 7);
@@ -74,36 +84,84 @@ fn check_line(line: StripLine) {
 #[test]
 fn vectors() {
     let found = strip_lines(include_str!("../../tests/vectors/strips.txt"));
-    assert_eq!(found.len(), 196);
+    assert_eq!(found.len(), 267);
     found.into_iter().for_each(check_line);
 }
 
 // ---- there and back
 
+/// A strip at each step, for each body, with azimuths for it.
+fn strips() -> Vec<(Strip, Vec<u32>)> {
+    let mut random = Random(6);
+    let strips = STEPS.into_iter().flat_map(|step| BODIES.map(|body| Strip { body, step, ..STRIP }));
+    strips
+        .map(|strip| {
+            let mut azimuths: Vec<u32> =
+                (0..1440 / strip.step).map(|_| random.within(0, TURN as i64 - 1) as u32).collect();
+            azimuths[1..4].copy_from_slice(&[0, TURN - 1, NO_AZIMUTH]);
+            (strip, azimuths)
+        })
+        .collect()
+}
+
+/// What a strip is read as, its azimuths step by step.
+fn found(bytes: &[u8]) -> (Strip, Vec<u32>) {
+    let (strip, part) = read_strip(bytes).expect("accepted");
+    let azimuths = (0..1440 / strip.step).map(|at| strip_azimuth(part, at as u64).expect("a step"));
+    (strip, azimuths.collect())
+}
+
 #[test]
 fn what_was_written_is_read_and_written_again() {
-    let mut random = Random(6);
-    for step in STEPS {
-        let mut azimuths: Vec<u32> = (0..1440 / step).map(|_| random.within(0, TURN as i64 - 1) as u32).collect();
-        azimuths[1..4].copy_from_slice(&[0, TURN - 1, NO_AZIMUTH]);
-        for (air, body) in [(Air::None, Body::Sun), (Air::Standard, Body::Moon)] {
-            let strip = Strip { air, body, step, ..STRIP };
-            let bytes = written(&strip, &azimuths);
-            assert_eq!(bytes.len(), 18 + 4 * azimuths.len());
-            let (found, part) = read_strip(&bytes).expect("accepted");
-            let by_step: Vec<u32> =
-                (0..1440 / step).map(|at| strip_azimuth(part, at as u64).expect("a step")).collect();
-            assert_eq!((found, &by_step), (strip, &azimuths));
-            assert_eq!(written(&found, &by_step), bytes);
-        }
+    for (strip, azimuths) in strips() {
+        let bytes = written(&strip, &azimuths);
+        assert_eq!((bytes.len(), bytes[3]), (18 + 4 * azimuths.len(), 0));
+        let (again, by_step) = found(&bytes);
+        assert_eq!((again, &by_step), (strip, &azimuths));
+        assert_eq!(written(&again, &by_step), bytes);
     }
+}
+
+/// An old strip, which has air byte 1, is read; what was read is not written, but without its air it is, with byte 0.
+#[test]
+fn what_is_carried_over_is_not_written_again() {
+    for (strip, azimuths) in strips() {
+        let bytes = written(&strip, &azimuths);
+        let mut old = bytes.clone();
+        old[3] = 1;
+        let (carried_over, by_step) = found(&old);
+        assert_eq!((carried_over, &by_step), (Strip { air: CARRIED_OVER, ..strip }, &azimuths));
+        for size in [0, bytes.len() - 1, bytes.len(), 6_000] {
+            let mut buffer = vec![7; size];
+            assert_eq!(write_strip(&carried_over, &by_step, &mut buffer), Err(32), "{size}");
+            assert!(buffer.iter().all(|&byte| byte == 7), "{size}");
+        }
+        assert_eq!(written(&Strip { air: StripAir::None, ..carried_over }, &by_step), bytes);
+    }
+}
+
+#[test]
+fn two_air_bytes_there_are() {
+    let mut bytes = written(&STRIP, &[1; 144]);
+    for byte in 0..=255 {
+        bytes[3] = byte;
+        let expected = [StripAir::None, CARRIED_OVER].get(usize::from(byte)).copied().ok_or(22);
+        assert_eq!(read_strip(&bytes).map(|(strip, _)| strip.air), expected, "{byte}");
+    }
+}
+
+#[test]
+fn the_air_of_a_request() {
+    assert_eq!([StripAir::None, MEASURED].map(Air::from), [Air::None, Air::Measured(820.0, 11.0)]);
+    assert_eq!(Air::from(CARRIED_OVER), Air::Measured(1010.0, 10.0));
+    assert_eq!(Air::from(StripAir::CarriedOver(820.0, 11.0)), Air::from(MEASURED));
 }
 
 /// The bytes of one strip, by hand.
 #[test]
 fn header_by_hand() {
     let bytes = written(&STRIP, &[1; 144]);
-    let header = [2, 80, 1, 1, 1, 7, 211, 10, 17, 0xc1, 0x4f, 0x04, 0xf0, 0x17, 0xb0, 0x38, 0x78, 10, 0, 0, 0, 1];
+    let header = [2, 80, 1, 0, 1, 7, 211, 10, 17, 0xc1, 0x4f, 0x04, 0xf0, 0x17, 0xb0, 0x38, 0x78, 10, 0, 0, 0, 1];
     assert_eq!(bytes[..22], header);
 }
 
@@ -148,24 +206,64 @@ fn every_cut_is_refused() {
     }
 }
 
+/// What the writer is handed: a strip, its azimuths, and a buffer of some size.
+struct Handed {
+    strip: Strip,
+    azimuths: Vec<u32>,
+    size: usize,
+}
+
+/// Spoils what the writer is handed in one way.
+type Fault = fn(&mut Handed);
+
+/// In the order in which the writer refuses them; no fault mends another.
+const FAULTS: [(u8, Fault); 20] = [
+    (23, |handed| handed.strip.year = i64::MAX),
+    (23, |handed| handed.strip.month = 0),
+    (23, |handed| handed.strip.day = 32),
+    (24, |handed| handed.strip.longitude = 1_800_000_001),
+    (24, |handed| handed.strip.latitude = i64::MIN),
+    (25, |handed| handed.strip.step = 11),
+    (25, |handed| handed.strip.step = i64::MIN),
+    (20, |handed| handed.azimuths.truncate(143)),
+    (20, |handed| handed.azimuths.extend([1; 144])),
+    (26, |handed| handed.azimuths[0] = TURN),
+    (26, |handed| handed.azimuths[142] = NO_AZIMUTH - 1),
+    (32, |handed| handed.strip.air = MEASURED),
+    (32, |handed| handed.strip.air = StripAir::Measured(1010.0, 10.0)),
+    (32, |handed| handed.strip.air = StripAir::Measured(f64::NAN, f64::NAN)),
+    (32, |handed| handed.strip.air = CARRIED_OVER),
+    (32, |handed| handed.strip.air = StripAir::CarriedOver(820.0, 11.0)),
+    (32, |handed| handed.strip.air = StripAir::CarriedOver(f64::NAN, f64::NAN)),
+    (28, |handed| handed.size = 593),
+    (28, |handed| handed.size = 3),
+    (28, |handed| handed.size = 0),
+];
+
+/// The writer's answer to what has these faults. Where it refuses, it writes nothing.
+fn answer(faults: &[(u8, Fault)]) -> Result<usize, u8> {
+    let mut handed = Handed { strip: STRIP, azimuths: vec![1; 144], size: 594 };
+    faults.iter().for_each(|(_, fault)| fault(&mut handed));
+    let mut buffer = vec![7; handed.size];
+    let found = write_strip(&handed.strip, &handed.azimuths, &mut buffer);
+    assert!(found.is_ok() || buffer.iter().all(|&byte| byte == 7));
+    found
+}
+
+/// Of any two faults, and of all from one on.
 #[test]
 fn the_writer_s_first_refusal() {
-    let mut strip = STRIP;
-    let mut azimuths = vec![1; 144];
-    let refused = |strip: &Strip, azimuths: &[u32]| write_strip(strip, azimuths, &mut [7; 593]);
-    assert_eq!(refused(&strip, &azimuths), Err(28));
-    azimuths[143] = TURN;
-    assert_eq!(refused(&strip, &azimuths), Err(26));
-    azimuths.pop();
-    assert_eq!(refused(&strip, &azimuths), Err(20));
-    strip.step = 11;
-    assert_eq!(refused(&strip, &azimuths), Err(25));
-    strip.latitude = i64::MIN;
-    assert_eq!(refused(&strip, &azimuths), Err(24));
-    strip.year = i64::MAX;
-    assert_eq!(refused(&strip, &azimuths), Err(23));
-    strip.air = Air::Measured(f64::NAN, 0.0);
-    assert_eq!(refused(&strip, &azimuths), Err(22));
+    assert_eq!(answer(&[]), Ok(594));
+    let mut order = FAULTS.map(|(number, _)| number).to_vec();
+    order.dedup();
+    assert_eq!(order, [23, 24, 25, 20, 26, 32, 28]);
+    for (at, &first) in FAULTS.iter().enumerate() {
+        let (number, _) = first;
+        assert_eq!([answer(&[first]), answer(&FAULTS[at..])], [Err(number); 2], "{at}");
+        for (behind, &second) in FAULTS.iter().enumerate().skip(at) {
+            assert_eq!(answer(&[first, second]), Err(number), "{at} {behind}");
+        }
+    }
 }
 
 // ---- steps and lookups

@@ -34,9 +34,10 @@ pub const LOWEST_REFRACTED_E8: i64 = -83_337_000;
 /// use raddlehue::{refraction, Air, DEGREE_E8, LOWEST_REFRACTED_E8};
 ///
 /// assert_eq!(refraction(10 * DEGREE_E8, Air::None), Ok(0.0));
-/// assert!(refraction(10 * DEGREE_E8, Air::Standard)? > 0.08);
-/// assert!(refraction(LOWEST_REFRACTED_E8, Air::Standard)? > 0.6);
-/// assert_eq!(refraction(LOWEST_REFRACTED_E8 - 1, Air::Standard), Ok(0.0));
+/// let air = Air::Measured { pressure_mbar: 1010.0, temperature_celsius: 10.0 };
+/// assert!(refraction(10 * DEGREE_E8, air)? > 0.08);
+/// assert!(refraction(LOWEST_REFRACTED_E8, air)? > 0.6);
+/// assert_eq!(refraction(LOWEST_REFRACTED_E8 - 1, air), Ok(0.0));
 /// # Ok::<(), raddlehue::Refusal>(())
 /// ```
 pub fn refraction(elevation_e8: i64, air: Air) -> Result<f64, Refusal> {

@@ -40,9 +40,9 @@ pub struct RiseSet {
 
 /// A strip's header as C has it, air and body by their codes.
 #[repr(C)]
-#[derive(Clone, Copy, Default, PartialEq, Eq, Hash)]
+#[derive(Clone, Copy, Default)]
 pub struct Strip {
-    pub air: i64,
+    pub air_kind: i64,
     pub body: i64,
     pub year: i64,
     pub month: i64,
@@ -50,6 +50,14 @@ pub struct Strip {
     pub longitude_e7: i64,
     pub latitude_e7: i64,
     pub step_minutes: i64,
+}
+
+/// What a strip's air was measured at, zeros where there is none.
+#[repr(C)]
+#[derive(Clone, Copy, Default)]
+pub struct Measured {
+    pub pressure_mbar: f64,
+    pub temperature_celsius: f64,
 }
 
 /// Which of two strips, from 1, and where its azimuth bytes lie.
@@ -71,6 +79,7 @@ const _: () = {
     assert!(size_of::<Date>() == 40);
     assert!(size_of::<RiseSet>() == 16);
     assert!(size_of::<Strip>() == 64);
+    assert!(size_of::<Measured>() == 16);
     assert!(size_of::<StripPart>() == 24);
     assert!(size_of::<Eclipse>() == 32);
     assert!(size_of::<Instant>() == 16);
@@ -139,7 +148,7 @@ unsafe extern "C" {
         bytes_length: u64,
         written: &mut u64,
     ) -> u32;
-    unsafe fn raddlehue_strip_read(bytes: *const u8, bytes_length: u64, strip: &mut Strip) -> u32;
+    unsafe fn raddlehue_strip_read(bytes: *const u8, bytes_length: u64, strip: &mut Strip, measured: &mut Measured) -> u32;
     unsafe fn raddlehue_strip_azimuth(azimuths: *const u8, azimuths_length: u64, step: u64, azimuth_e7: &mut u32) -> u32;
     unsafe fn raddlehue_strip_find(
         first: *const u8,
@@ -240,10 +249,10 @@ pub fn strip_write(strip: &Strip, azimuths_e7: &[u32], bytes: &mut [u8], written
     unsafe { raddlehue_strip_write(strip, azimuth, azimuths_length, bytes.as_mut_ptr(), bytes.len() as u64, written) }
 }
 
-/// The header of a slice that is a strip.
-pub fn strip_read(bytes: &[u8], strip: &mut Strip) -> u32 {
+/// The header of a slice that is a strip, and what its air was measured at.
+pub fn strip_read(bytes: &[u8], strip: &mut Strip, measured: &mut Measured) -> u32 {
     // SAFETY: as in the batch.
-    unsafe { raddlehue_strip_read(bytes.as_ptr(), bytes.len() as u64, strip) }
+    unsafe { raddlehue_strip_read(bytes.as_ptr(), bytes.len() as u64, strip, measured) }
 }
 
 /// An azimuth of a slice of azimuth bytes.

@@ -20,6 +20,7 @@
 //! - **Time** is UTC, never a local zone. UT1 minus UTC and delta-T (TT minus UT1) are the caller's to give, in milliseconds.
 //! - **Names say their unit**, as in the C header: `_e7` and `_e8` are 10⁻⁷ and 10⁻⁸ degree, `_e10` is 10⁻¹⁰, `_ms` are milliseconds, `_millionths` are of
 //!   the Sun's disk. Version 3 counted time in tenths of a second: what was written for it does not compile, since each name that carries a time is another now.
+//! - **Air** is none or measured. Version 4 had standard air too; the strips that it wrote in it are read as measured air that was carried over ([`StripAir`]).
 //!
 //! No function keeps state, reads a clock or panics; each takes about 8 KiB of stack at most, [`rise_set`] 11.5 KB more for its curve, [`plan`] some 12 KB more for the
 //! day's azimuths. Every number may be given, and what cannot be answered is a [`Refusal`].

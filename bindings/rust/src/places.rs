@@ -121,7 +121,8 @@ pub fn place(start: Start, body: Body, point: Point, air: Air) -> Result<Place, 
 /// use raddlehue::{shown_place, Air, Body, Point, Refusal, Start};
 ///
 /// let boulder = Point::east_north(-105.1786, 39.742476, 1830);
-/// let asked = |year| shown_place(Start::utc(year, 10, 17, 19, 30, 30).delta_t_ms(67_000), Body::Sun, boulder, Air::Standard);
+/// let air = Air::Measured { pressure_mbar: 1010.0, temperature_celsius: 10.0 };
+/// let asked = |year| shown_place(Start::utc(year, 10, 17, 19, 30, 30).delta_t_ms(67_000), Body::Sun, boulder, air);
 /// assert_eq!(format!("{:.4}", asked(2003)?.refraction_degrees), "0.0202");
 /// assert_eq!(asked(2101), Err(Refusal::Year));
 /// # Ok::<(), raddlehue::Refusal>(())

@@ -70,7 +70,7 @@ pub enum Refusal {
     StripLength,
     /// 21: the version byte is not 1.
     StripVersion,
-    /// 22: the air byte or the body byte is neither 0 nor 1; where a strip is written, the air is measured.
+    /// 22: the air byte or the body byte is neither 0 nor 1.
     StripAirOrBody,
     /// 23: the date is none of the Gregorian calendar from 1900 to 2100.
     StripDate,
@@ -82,6 +82,8 @@ pub enum Refusal {
     StripAzimuth,
     /// 27: neither of two strips bears the date asked for.
     StripNotFound,
+    /// 32: the air of a strip that is to be written is measured, whether it was carried over or not.
+    StripMeasuredAir,
     /// 28: a buffer is too small for a strip, or for the azimuths of one.
     StripBuffer,
     /// 29: the turning points are fewer than 2 or more than 1,440, their minutes do not rise from 0 to 1439, an azimuth is not 0 to 35,999,999,999 of 10⁻⁸ degree, or one
@@ -102,7 +104,7 @@ pub enum Refusal {
 }
 
 // All that have a name, in the order of the checks.
-const NAMED: [Refusal; 35] = [
+const NAMED: [Refusal; 36] = [
     Refusal::UnknownBody,
     Refusal::UnknownAir,
     Refusal::NoElevation,
@@ -133,6 +135,7 @@ const NAMED: [Refusal; 35] = [
     Refusal::StripStep,
     Refusal::StripAzimuth,
     Refusal::StripNotFound,
+    Refusal::StripMeasuredAir,
     Refusal::StripBuffer,
     Refusal::ProposalPoints,
     Refusal::ProposalOpposite,
@@ -145,7 +148,7 @@ impl Refusal {
     const fn row(self) -> (u32, &'static str, &'static str) {
         match self {
             Refusal::UnknownBody => (101, "UNKNOWN_BODY", "the body is neither Sun nor Moon"),
-            Refusal::UnknownAir => (102, "UNKNOWN_AIR", "the air is none of none, standard and measured"),
+            Refusal::UnknownAir => (102, "UNKNOWN_AIR", "the air is neither none nor measured"),
             Refusal::NoElevation => (103, "NO_ELEVATION", "the elevation is not within 90 degrees"),
             Refusal::OutOfReach => {
                 (104, "OUT_OF_REACH", "the instant is not within 3,190,473,360,000 milliseconds of 2000-01-01 12:00")
@@ -181,7 +184,7 @@ impl Refusal {
             ),
             Refusal::StripVersion => (21, "STRIP_VERSION", "the strip is not of version 1"),
             Refusal::StripAirOrBody => {
-                (22, "STRIP_AIR_OR_BODY", "the strip's air is neither none nor standard, or its body neither Sun nor Moon")
+                (22, "STRIP_AIR_OR_BODY", "the strip's air byte is not 0 or 1, or its body byte not 0 or 1")
             }
             Refusal::StripDate => (23, "STRIP_DATE", "the strip's date is not one of 1900 to 2100 in the Gregorian calendar"),
             Refusal::StripPoint => {
@@ -192,6 +195,9 @@ impl Refusal {
                 (26, "STRIP_AZIMUTH", "an azimuth of the strip is neither absent nor from 0 up to but not 360 degrees")
             }
             Refusal::StripNotFound => (27, "STRIP_NOT_FOUND", "neither strip bears that date"),
+            Refusal::StripMeasuredAir => {
+                (32, "STRIP_MEASURED_AIR", "a strip in measured air is not written, whether it was carried over or not")
+            }
             Refusal::StripBuffer => (28, "STRIP_BUFFER", "the buffer is too small for the strip or its azimuths"),
             Refusal::ProposalPoints => (
                 29,

@@ -189,8 +189,6 @@ const fn units_e7(degrees: f64) -> i64 {
 pub enum Air {
     /// No refraction.
     None,
-    /// The same as measured at 1010 mbar and 10 °C.
-    Standard,
     /// What a barometer and a thermometer say at the point.
     Measured {
         /// mbar where the observer stands (not reduced to sea level), 0 to 1200.
@@ -205,7 +203,6 @@ impl Air {
     pub(crate) const fn parts(self) -> (u32, f64, f64) {
         match self {
             Air::None => (0, 0.0, 0.0),
-            Air::Standard => (1, 0.0, 0.0),
             Air::Measured { pressure_mbar, temperature_celsius } => (2, pressure_mbar, temperature_celsius),
         }
     }

@@ -6,6 +6,7 @@ use crate::{archive, Air, Body, Date, Point, Refusal, DAY_MINUTES};
 #[cfg(feature = "alloc")]
 use alloc::{vec, vec::Vec};
 use core::fmt;
+use core::hash::{Hash, Hasher};
 use core::iter::FusedIterator;
 use core::ops::Range;
 
@@ -67,8 +68,8 @@ pub fn azimuth_in(entry_e7: u32) -> Option<u32> {
 /// What a strip says beside its azimuths, as it is handed to [`write_strip`].
 #[derive(Clone, Copy, Debug, PartialEq)]
 pub struct StripHeader {
-    /// None or standard: measured air is refused, by [`StripAirOrBody`](Refusal::StripAirOrBody).
-    pub air: Air,
+    /// None: measured air is refused, carried over or not, by [`StripMeasuredAir`](Refusal::StripMeasuredAir).
+    pub air: StripAir,
     /// Whose azimuths these are.
     pub body: Body,
     /// Gregorian, 1900 to 2100, of a UTC date.
@@ -86,25 +87,25 @@ pub struct StripHeader {
 }
 
 impl StripHeader {
-    /// The header of what [`day_azimuths`] works for the same date, body, point and step. A strip has no room for UT1, delta-T and height.
+    /// The header of what [`day_azimuths`] works for the same date, body, point and step, without air. A strip has no room for UT1, delta-T and height.
     ///
     /// ```
-    /// use raddlehue::{Air, Body, Date, Point, StripHeader};
+    /// use raddlehue::{Body, Date, Point, StripHeader};
     ///
-    /// let header = StripHeader::of(Date::utc(2003, 10, 17), Body::Moon, Point::east_north(-105.1786, 39.742476, 1830), 5, Air::Standard);
+    /// let header = StripHeader::of(Date::utc(2003, 10, 17), Body::Moon, Point::east_north(-105.1786, 39.742476, 1830), 5);
     /// assert_eq!((header.year, header.longitude_e7, header.step_minutes), (2003, -1_051_786_000, 5));
     /// ```
     #[must_use]
-    pub const fn of(date: Date, body: Body, point: Point, step_minutes: i64, air: Air) -> StripHeader {
+    pub const fn of(date: Date, body: Body, point: Point, step_minutes: i64) -> StripHeader {
         let Date { year, month, day, .. } = date;
         let Point { longitude_e7, latitude_e7, .. } = point;
-        StripHeader { air, body, year, month, day, longitude_e7, latitude_e7, step_minutes }
+        StripHeader { air: StripAir::None, body, year, month, day, longitude_e7, latitude_e7, step_minutes }
     }
 
     fn codes(self) -> archive::Strip {
         let StripHeader { year, month, day, longitude_e7, latitude_e7, step_minutes, .. } = self;
-        let (air, body) = (self.air.parts().0.into(), self.body.code().into());
-        archive::Strip { air, body, year, month, day, longitude_e7, latitude_e7, step_minutes }
+        let (air_kind, body) = (self.air.kind(), self.body.code().into());
+        archive::Strip { air_kind, body, year, month, day, longitude_e7, latitude_e7, step_minutes }
     }
 }
 
@@ -136,12 +137,11 @@ pub fn day_azimuths(date: Date, body: Body, point: Point, step_minutes: i64, azi
 /// Writes a strip into a lent buffer, from its start on: a header, and its azimuths in 10⁻⁷ degree from north over east, [`NO_AZIMUTH_E7`] for one that is absent.
 ///
 /// The answer is how many bytes the strip has, [`strip_bytes`] of its step. What lies beyond keeps its contents, and a refused strip writes nothing. Reading what was written
-/// gives the same strip, and writing what was read gives the same bytes.
+/// gives the same strip, and writing what was read gives the same bytes, but for old strips: air byte 1 is read, and never written.
 ///
 /// # Errors
-/// [`StripAirOrBody`](Refusal::StripAirOrBody), 22, for measured air, [`StripDate`](Refusal::StripDate) to [`StripStep`](Refusal::StripStep), 23 to 25,
-/// [`StripLength`](Refusal::StripLength), 20, for another number of azimuths than the step has, [`StripAzimuth`](Refusal::StripAzimuth), 26, and
-/// [`StripBuffer`](Refusal::StripBuffer), 28, in this order.
+/// [`StripDate`](Refusal::StripDate) to [`StripStep`](Refusal::StripStep), 23 to 25, [`StripLength`](Refusal::StripLength), 20, for another number of azimuths than the
+/// step has, [`StripAzimuth`](Refusal::StripAzimuth), 26, [`StripMeasuredAir`](Refusal::StripMeasuredAir), 32, and [`StripBuffer`](Refusal::StripBuffer), 28, in this order.
 ///
 /// A strip of Boulder made, written, read and looked up:
 ///
@@ -154,7 +154,7 @@ pub fn day_azimuths(date: Date, body: Body, point: Point, step_minutes: i64, azi
 /// day_azimuths(date, Body::Sun, boulder, 10, &mut azimuths_e7)?;
 ///
 /// let mut bytes = [0; strip_bytes(10)];
-/// let header = StripHeader::of(date, Body::Sun, boulder, 10, Air::None);
+/// let header = StripHeader::of(date, Body::Sun, boulder, 10);
 /// assert_eq!(write_strip(header, &azimuths_e7, &mut bytes), Ok(594));
 ///
 /// let strip = Strip::try_from(&bytes[..])?;
@@ -178,9 +178,9 @@ pub fn write_strip(header: StripHeader, azimuths_e7: &[u32], bytes: &mut [u8]) -
 /// Those of [`write_strip`], but for 28.
 ///
 /// ```
-/// use raddlehue::{strip_to_vec, Air, Body, Date, Point, Strip, StripHeader, NO_AZIMUTH_E7};
+/// use raddlehue::{strip_to_vec, Body, Date, Point, Strip, StripHeader, NO_AZIMUTH_E7};
 ///
-/// let header = StripHeader::of(Date::utc(2026, 11, 15), Body::Moon, Point::east_north(170.5, -45.5, 0), 10, Air::Standard);
+/// let header = StripHeader::of(Date::utc(2026, 11, 15), Body::Moon, Point::east_north(170.5, -45.5, 0), 10);
 /// let bytes = strip_to_vec(header, &[NO_AZIMUTH_E7; 144])?;
 /// assert_eq!(Strip::try_from(&bytes[..])?.header(), header);
 /// # Ok::<(), raddlehue::Refusal>(())
@@ -195,25 +195,62 @@ pub fn strip_to_vec(header: StripHeader, azimuths_e7: &[u32]) -> Result<Vec<u8>,
 
 // ---- reading
 
-/// The air of a strip, which is never measured.
-#[derive(Clone, Copy, Debug, PartialEq, Eq, Hash)]
+/// The air of a strip. Air byte 1 of an old strip, which meant standard air, is read as measured air that was carried over; no strip is written with it.
+///
+/// ```
+/// use raddlehue::*;
+///
+/// let header = StripHeader::of(Date::utc(2026, 11, 15), Body::Sun, Point::east_north(0.0, 0.0, 0), 10);
+/// let mut bytes = [0; strip_bytes(10)];
+/// write_strip(header, &[900_000_000; strip_steps(10)], &mut bytes)?;
+/// bytes[3] = 1;
+///
+/// let old = Strip::try_from(&bytes[..])?;
+/// assert_eq!(old.air(), StripAir::CarriedOver { pressure_mbar: 1010.0, temperature_celsius: 10.0 });
+/// assert_eq!(Air::from(old.air()), Air::Measured { pressure_mbar: 1010.0, temperature_celsius: 10.0 });
+/// assert_eq!(write_strip(old.header(), &[900_000_000; strip_steps(10)], &mut [0; 600]), Err(Refusal::StripMeasuredAir));
+/// # Ok::<(), Refusal>(())
+/// ```
+#[derive(Clone, Copy, Debug, PartialEq)]
 pub enum StripAir {
     /// No refraction.
     None,
-    /// As measured at 1010 mbar and 10 °C.
-    Standard,
+    /// What a barometer and a thermometer said. No strip that is read has it, and none is written with it.
+    Measured {
+        /// mbar.
+        pressure_mbar: f64,
+        /// °C.
+        temperature_celsius: f64,
+    },
+    /// Measured air with the mark that it was carried over from an old strip.
+    CarriedOver {
+        /// mbar: 1010 where it was read.
+        pressure_mbar: f64,
+        /// °C: 10 where it was read.
+        temperature_celsius: f64,
+    },
 }
 
-/// As a request has it.
-///
-/// ```
-/// assert_eq!(raddlehue::Air::from(raddlehue::StripAir::Standard), raddlehue::Air::Standard);
-/// ```
+impl StripAir {
+    // C's code.
+    const fn kind(self) -> i64 {
+        match self {
+            StripAir::None => 0,
+            StripAir::Measured { .. } => 2,
+            StripAir::CarriedOver { .. } => 3,
+        }
+    }
+}
+
+/// The air of a request for the same place: the mark is left behind. Where it was carried over the shown place has the bits that it had in standard air.
 impl From<StripAir> for Air {
     fn from(air: StripAir) -> Air {
         match air {
             StripAir::None => Air::None,
-            StripAir::Standard => Air::Standard,
+            StripAir::Measured { pressure_mbar, temperature_celsius }
+            | StripAir::CarriedOver { pressure_mbar, temperature_celsius } => {
+                Air::Measured { pressure_mbar, temperature_celsius }
+            }
         }
     }
 }
@@ -227,7 +264,7 @@ impl From<StripAir> for Air {
 ///
 /// let mut azimuths_e7 = [900_000_000; strip_steps(10)];
 /// azimuths_e7[72] = NO_AZIMUTH_E7;
-/// let header = StripHeader::of(Date::utc(2026, 11, 15), Body::Sun, Point::east_north(0.0, 0.0, 0), 10, Air::None);
+/// let header = StripHeader::of(Date::utc(2026, 11, 15), Body::Sun, Point::east_north(0.0, 0.0, 0), 10);
 /// let mut bytes = [0; strip_bytes(10)];
 /// write_strip(header, &azimuths_e7, &mut bytes)?;
 ///
@@ -238,10 +275,26 @@ impl From<StripAir> for Air {
 /// assert_eq!(Strip::try_from(&bytes[1..]), Err(Refusal::StripLength));
 /// # Ok::<(), Refusal>(())
 /// ```
-#[derive(Clone, Copy, PartialEq, Eq, Hash)]
+#[derive(Clone, Copy)]
 pub struct Strip<'a> {
     header: archive::Strip,
+    measured: archive::Measured,
     bytes: &'a [u8],
+}
+
+// All that a strip says stands in its bytes.
+impl PartialEq for Strip<'_> {
+    fn eq(&self, other: &Self) -> bool {
+        self.bytes == other.bytes
+    }
+}
+
+impl Eq for Strip<'_> {}
+
+impl Hash for Strip<'_> {
+    fn hash<H: Hasher>(&self, state: &mut H) {
+        self.bytes.hash(state);
+    }
 }
 
 /// # Errors
@@ -251,18 +304,20 @@ impl<'a> TryFrom<&'a [u8]> for Strip<'a> {
     type Error = Refusal;
 
     fn try_from(bytes: &'a [u8]) -> Result<Strip<'a>, Refusal> {
-        let header = answer(|header| archive::strip_read(bytes, header))?;
-        Ok(Strip { header, bytes })
+        let mut measured = archive::Measured::default();
+        let header = answer(|header| archive::strip_read(bytes, header, &mut measured))?;
+        Ok(Strip { header, measured, bytes })
     }
 }
 
 impl<'a> Strip<'a> {
-    /// None or standard.
+    /// None, or measured air that was carried over from an old strip.
     #[must_use]
     pub const fn air(&self) -> StripAir {
-        match self.header.air {
+        let archive::Measured { pressure_mbar, temperature_celsius } = self.measured;
+        match self.header.air_kind {
             0 => StripAir::None,
-            _ => StripAir::Standard,
+            _ => StripAir::CarriedOver { pressure_mbar, temperature_celsius },
         }
     }
 
@@ -321,7 +376,7 @@ impl<'a> Strip<'a> {
     #[must_use]
     pub fn header(&self) -> StripHeader {
         let archive::Strip { year, month, day, longitude_e7, latitude_e7, step_minutes, .. } = self.header;
-        let (air, body) = (self.air().into(), self.body());
+        let (air, body) = (self.air(), self.body());
         StripHeader { air, body, year, month, day, longitude_e7, latitude_e7, step_minutes }
     }
 
@@ -345,7 +400,7 @@ impl<'a> Strip<'a> {
     ///
     /// ```
     /// # use raddlehue::*;
-    /// # let header = StripHeader::of(Date::utc(2026, 11, 15), Body::Sun, Point::east_north(0.0, 0.0, 0), 10, Air::None);
+    /// # let header = StripHeader::of(Date::utc(2026, 11, 15), Body::Sun, Point::east_north(0.0, 0.0, 0), 10);
     /// # let mut bytes = [0; strip_bytes(10)];
     /// # write_strip(header, &[900_000_000; strip_steps(10)], &mut bytes)?;
     /// let strip = Strip::try_from(&bytes[..])?;
@@ -364,7 +419,7 @@ impl<'a> Strip<'a> {
     ///
     /// ```
     /// # use raddlehue::*;
-    /// # let header = StripHeader::of(Date::utc(2026, 11, 15), Body::Sun, Point::east_north(0.0, 0.0, 0), 10, Air::None);
+    /// # let header = StripHeader::of(Date::utc(2026, 11, 15), Body::Sun, Point::east_north(0.0, 0.0, 0), 10);
     /// # let mut bytes = [0; strip_bytes(10)];
     /// # write_strip(header, &[900_000_000; strip_steps(10)], &mut bytes)?;
     /// let strip = Strip::try_from(&bytes[..])?;
@@ -384,7 +439,7 @@ impl<'a> Strip<'a> {
     ///
     /// ```
     /// # use raddlehue::*;
-    /// # let header = StripHeader::of(Date::utc(2026, 11, 15), Body::Sun, Point::east_north(0.0, 0.0, 0), 10, Air::None);
+    /// # let header = StripHeader::of(Date::utc(2026, 11, 15), Body::Sun, Point::east_north(0.0, 0.0, 0), 10);
     /// # let mut bytes = [0; strip_bytes(10)];
     /// # write_strip(header, &[900_000_000; strip_steps(10)], &mut bytes)?;
     /// let strip = Strip::try_from(&bytes[..])?;
@@ -510,7 +565,7 @@ impl fmt::Debug for FoundStrip<'_> {
 /// ```
 /// use raddlehue::*;
 ///
-/// let on = |day| StripHeader::of(Date::utc(2026, 11, day), Body::Sun, Point::east_north(0.0, 0.0, 0), 10, Air::None);
+/// let on = |day| StripHeader::of(Date::utc(2026, 11, day), Body::Sun, Point::east_north(0.0, 0.0, 0), 10);
 /// let (mut today, mut tomorrow) = ([0; strip_bytes(10)], [0; strip_bytes(10)]);
 /// write_strip(on(15), &[10; strip_steps(10)], &mut today)?;
 /// write_strip(on(16), &[20; strip_steps(10)], &mut tomorrow)?;

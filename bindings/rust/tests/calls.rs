@@ -73,7 +73,7 @@ fn the_mark_stands_in_that_entry_alone() {
 fn airs() {
     let lifted = |air| shown_place(START, Body::Sun, POINT, air).unwrap();
     assert_eq!(lifted(Air::None).refraction_degrees, 0.0);
-    assert_eq!(lifted(Air::Standard), lifted(measured(1010.0, 10.0)));
+    assert_eq!(lifted(CARRIED_OVER.into()), lifted(measured(1010.0, 10.0)));
     assert_eq!(place(START, Body::Sun, POINT, Air::None), place(START, Body::Sun, POINT, AIR));
 }
 
@@ -286,7 +286,9 @@ fn a_refused_day_keeps_the_curve() {
 
 const STEPS: [i64; 4] = [1, 2, 5, 10];
 const STRIP_DATE: Date = Date::utc(2003, 10, 17).delta_t_ms(67_000);
-const HEADER: StripHeader = StripHeader::of(STRIP_DATE, Body::Sun, POINT, 10, Air::Standard);
+const HEADER: StripHeader = StripHeader::of(STRIP_DATE, Body::Sun, POINT, 10);
+const CARRIED_OVER: StripAir = StripAir::CarriedOver { pressure_mbar: 1010.0, temperature_celsius: 10.0 };
+const MEASURED: StripAir = StripAir::Measured { pressure_mbar: 820.0, temperature_celsius: 11.0 };
 
 // Azimuths that no two neighbours share, the least, the greatest and an absent one among them.
 fn some_azimuths(step_minutes: i64) -> Vec<u32> {
@@ -336,7 +338,7 @@ fn a_minute_straight_overhead_or_underfoot_is_absent() {
         assert_eq!(day_azimuths(date, body, point, 1, &mut azimuths), Ok(1440));
         let absent: Vec<usize> = (0..1440).filter(|&minute| azimuth_in(azimuths[minute]).is_none()).collect();
         assert_eq!(absent, [minute]);
-        let bytes = strip_to_vec(StripHeader::of(date, body, point, 1, Air::None), &azimuths).unwrap();
+        let bytes = strip_to_vec(StripHeader::of(date, body, point, 1), &azimuths).unwrap();
         assert_eq!(read(&bytes).unwrap().azimuth(minute), Ok(None));
     }
 }
@@ -369,7 +371,7 @@ fn refused_azimuths_of_a_day_write_nothing() {
 // 02's words, byte by byte.
 #[test]
 fn the_bytes_of_a_strip() {
-    let bytes = some_strip(StripHeader { air: Air::None, body: Body::Moon, latitude_e7: -1, ..HEADER });
+    let bytes = some_strip(StripHeader { body: Body::Moon, latitude_e7: -1, ..HEADER });
     let length = 592_u16.to_be_bytes();
     let year = 2003_u16.to_be_bytes();
     let longitude = (-1_051_786_000_i32).to_be_bytes();
@@ -386,9 +388,9 @@ fn what_was_written_is_read_and_what_was_read_is_written() {
     let ends = [(-1_800_000_000, 900_000_000), (1_800_000_000, -900_000_000), (0, 0), (-1, 1)];
     let dates = [(1900, 1, 1), (2100, 12, 31), (2000, 2, 29), (2026, 9, 30)];
     for (index, step_minutes) in STEPS.into_iter().enumerate() {
-        for (air, body) in [(Air::None, Body::Sun), (Air::None, Body::Moon), (Air::Standard, Body::Sun)] {
+        for body in [Body::Sun, Body::Moon] {
             let ((longitude_e7, latitude_e7), (year, month, day)) = (ends[index], dates[index]);
-            let header = StripHeader { air, body, year, month, day, longitude_e7, latitude_e7, step_minutes };
+            let header = StripHeader { air: StripAir::None, body, year, month, day, longitude_e7, latitude_e7, step_minutes };
             let azimuths = some_azimuths(step_minutes);
             let mut bytes = vec![7; strip_bytes(step_minutes) + 3];
             let length = write_strip(header, &azimuths, &mut bytes).unwrap();
@@ -402,6 +404,30 @@ fn what_was_written_is_read_and_what_was_read_is_written() {
     }
 }
 
+// A strip with air byte 1, of every step: all but the air is read as without it, and it is not written again but without air.
+#[test]
+fn an_old_strip_is_carried_over() {
+    for step_minutes in STEPS {
+        for body in [Body::Sun, Body::Moon] {
+            let header = StripHeader { body, step_minutes, ..HEADER };
+            let (bare, azimuths) = (some_strip(header), some_azimuths(step_minutes));
+            let bytes = with(&bare, 3, &[1]);
+            let old = read(&bytes).unwrap();
+            assert_eq!((old.air(), old.header()), (CARRIED_OVER, StripHeader { air: CARRIED_OVER, ..header }));
+            assert!(old.iter().eq(read(&bare).unwrap().iter()));
+            assert_eq!(Air::from(old.air()), measured(1010.0, 10.0));
+            for length in [0, bytes.len() - 1, bytes.len()] {
+                let mut out = vec![7; length];
+                assert_eq!(write_strip(old.header(), &azimuths, &mut out), Err(Refusal::StripMeasuredAir), "{length}");
+                assert_eq!(out, vec![7; length]);
+            }
+            assert_eq!(strip_to_vec(old.header(), &azimuths), Err(Refusal::StripMeasuredAir));
+            assert_eq!(strip_to_vec(StripHeader { air: StripAir::None, ..old.header() }, &azimuths), Ok(bare));
+            assert_eq!(find_strip(&bytes, &bytes, 2003, 10, 17).unwrap().azimuth_bytes, old.azimuth_bytes());
+        }
+    }
+}
+
 // What refuses a strip first comes first; the buffer is too small in all of them.
 #[test]
 fn a_refused_strip_writes_nothing() {
@@ -411,8 +437,11 @@ fn a_refused_strip_writes_nothing() {
     let point = StripHeader { longitude_e7: 1_800_000_001, ..step };
     let date = StripHeader { day: 32, ..point };
     let requests = [
-        (StripHeader { air: AIR, ..date }, Refusal::StripAirOrBody),
-        (StripHeader { air: AIR, ..HEADER }, Refusal::StripAirOrBody),
+        (StripHeader { air: MEASURED, ..date }, Refusal::StripDate),
+        (StripHeader { air: MEASURED, ..point }, Refusal::StripPoint),
+        (StripHeader { air: CARRIED_OVER, ..step }, Refusal::StripStep),
+        (StripHeader { air: CARRIED_OVER, ..HEADER }, Refusal::StripAzimuth),
+        (StripHeader { air: MEASURED, ..HEADER }, Refusal::StripAzimuth),
         (date, Refusal::StripDate),
         (StripHeader { year: 1899, ..HEADER }, Refusal::StripDate),
         (StripHeader { year: 2101, ..HEADER }, Refusal::StripDate),
@@ -446,6 +475,10 @@ fn a_refused_strip_writes_nothing() {
     refused(HEADER, &[&over[..], &[0]].concat(), 600, Refusal::StripLength);
     for length in [0, 1, 2, 18, 593] {
         refused(HEADER, &azimuths, length, Refusal::StripBuffer);
+        for air in [MEASURED, CARRIED_OVER, StripAir::Measured { pressure_mbar: f64::NAN, temperature_celsius: 0.0 }] {
+            refused(StripHeader { air, ..HEADER }, &azimuths, length, Refusal::StripMeasuredAir);
+            refused(StripHeader { air, ..HEADER }, &azimuths[1..], length, Refusal::StripLength);
+        }
     }
 }
 
@@ -525,12 +558,11 @@ fn shared_by_threads<T: Send + Sync + Copy>(_: T) {}
 
 #[test]
 fn a_strip_is_a_view() {
-    let header = StripHeader { air: Air::None, ..HEADER };
-    let bytes = some_strip(header);
+    let bytes = some_strip(HEADER);
     let strip = read(&bytes).unwrap();
     assert!(std::ptr::eq(strip.bytes(), &bytes[..]));
     assert!(std::ptr::eq(strip.azimuth_bytes(), &bytes[STRIP_HEADER..]));
-    assert_eq!((strip.air(), read(&some_strip(HEADER)).unwrap().air()), (StripAir::None, StripAir::Standard));
+    assert_eq!((strip.air(), strip.header()), (StripAir::None, HEADER));
     assert_eq!((strip.body(), strip.step_minutes(), strip.steps()), (Body::Sun, 10, 144));
     assert_eq!((strip.year(), strip.month(), strip.day()), (2003, 10, 17));
     assert_eq!((strip.longitude_e7(), strip.latitude_e7()), (POINT.longitude_e7, POINT.latitude_e7));
@@ -915,7 +947,7 @@ fn middles() {
 
 #[test]
 fn refractions() {
-    for air in [Air::Standard, AIR] {
+    for air in [measured(1010.0, 10.0), AIR] {
         assert!(refraction(LOWEST_REFRACTED_E8, air).unwrap() > refraction(0, air).unwrap());
         assert_eq!(refraction(LOWEST_REFRACTED_E8 - 1, air), Ok(0.0));
     }

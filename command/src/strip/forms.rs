@@ -1,11 +1,11 @@
 //! What a strip says, in three forms.
 
-use super::air_key;
+use super::{air_key, air_words};
 use crate::calendar::Date;
 use crate::decimal;
 use crate::format::{self, Format, NONE};
 use crate::observer::point_words;
-use crate::sky::{Strip, StripStep, Which, POINT_DECIMALS, STRIP_HEADER};
+use crate::sky::{Strip, StripAir, StripStep, Which, POINT_DECIMALS, STRIP_HEADER};
 use crate::time::Moment;
 
 /// Which of two strips it is, and where its azimuths lie.
@@ -83,7 +83,7 @@ fn text(strip: Strip, found: Option<Found>) -> String {
         format::body_name(strip.body()),
         date(strip).written(),
         point_words(strip.latitude_e7(), strip.longitude_e7()),
-        air_key(strip.air()),
+        air_words(strip.air()),
         counted(strip),
         none_words(strip)
     );
@@ -102,6 +102,17 @@ fn none_words(strip: Strip) -> String {
     }
 }
 
+fn json_air(air: StripAir) -> String {
+    let key = air_key(air);
+    match air {
+        StripAir::None => format!("\"air\": \"{key}\""),
+        StripAir::Measured { pressure_mbar, temperature_celsius }
+        | StripAir::CarriedOver { pressure_mbar, temperature_celsius } => {
+            format!("\"air\": \"{key}\", \"pressure_mbar\": {pressure_mbar}, \"temperature_celsius\": {temperature_celsius}")
+        }
+    }
+}
+
 fn json(strip: Strip, found: Option<Found>) -> String {
     let row = |step: StripStep| {
         let azimuth = format::json_member("azimuth_degrees", azimuth(step), false);
@@ -115,7 +126,7 @@ fn json(strip: Strip, found: Option<Found>) -> String {
     let mut members: Vec<String> = found.map(part).into_iter().collect();
     members.extend([
         format!("\"date\": \"{}\", \"zone\": \"Z\", \"body\": \"{}\"", date(strip).written(), format::body_key(strip.body())),
-        format!("\"air\": \"{}\"", air_key(strip.air())),
+        json_air(strip.air()),
         format::json_point(strip.latitude_e7(), strip.longitude_e7()),
         format!("\"step_minutes\": {}, \"steps\": {}, \"absent\": {}", strip.step_minutes(), strip.steps(), absent(strip)),
         format!("\"azimuths\": {}", format::json_rows(&rows)),

@@ -1,16 +1,16 @@
 //! `raddlehue strip make`: a day's azimuths into a file.
 
-use super::{air_key, file};
+use super::{air_words, file};
 use crate::failure::{quoted, Failure};
 use crate::format;
 use crate::observer::{self, observer_help, scales_words, Observer};
 use crate::place::body;
-use crate::sky::{self, StripAir};
+use crate::sky;
 use crate::strip::forms::counted;
 use crate::time::{Moment, UTC};
 use crate::words::{Command, Flag, Words};
 
-const FLAGS: &[Flag] = &[("--step", Some("minutes")), ("--air", Some("none or standard")), ("--out", Some("a file"))];
+const FLAGS: &[Flag] = &[("--step", Some("minutes")), ("--out", Some("a file"))];
 
 pub const COMMAND: Command = Command {
     name: "strip make",
@@ -23,14 +23,14 @@ pub const COMMAND: Command = Command {
 Writes a day strip: 18 bytes that say air, body, date, point and step, and an
 azimuth for each step from 00:00 UTC on, in units of 1e-7 degree, rounded down.
 DATE is like 2026-11-15, a day of UTC. Delta-T is that of the day's beginning;
-it, UT1 minus UTC and the height are worked with, and are not in the file. No
-air changes an azimuth. A file that is there already is not overwritten.
+it, UT1 minus UTC and the height are worked with, and are not in the file. The
+air is none: no air changes an azimuth. A file that is there already is not
+overwritten.
 
 ",
         observer_help!(),
         "  --step MIN        minutes from azimuth to azimuth: 1, 2, 5 or 10; 10 unless
                     given
-  --air AIR         none or standard, for what the file says; none unless given
   --out FILE        the file to write: 594 bytes at step 10, 5778 at step 1
 
   raddlehue strip make moon 2026-11-15 --lat 45.5S --lon 170.5E --out m.strip
@@ -43,31 +43,22 @@ fn run(words: &Words) -> Result<String, Failure> {
     let body = body(words.positional(0))?;
     let observer = Observer::read(words)?;
     let step_minutes = words.value("--step").map_or(Ok(10), |word| observer::number(word, "step", 0, "1, 2, 5 or 10"))?;
-    let air = words.value("--air").map_or(Ok(StripAir::None), air)?;
     let name = out(words)?;
     let midnight = Moment::midnight(words.positional(1), UTC)?;
-    let bytes = sky::strip_of_day(observer.view(midnight), body, step_minutes, air)?;
+    let bytes = sky::strip_of_day(observer.view(midnight), body, step_minutes)?;
     let strip = sky::strip(&bytes)?;
     file::write_new(name, &bytes)?;
     Ok(format!(
         "Strip of the {} on {} UTC, air {}\n{}\n{}{}\n{} bytes are written to {}\n",
         format::body_name(body),
         midnight.clock().date.written(),
-        air_key(air),
+        air_words(strip.air()),
         observer.words(),
         scales_words(observer.scales(midnight)),
         counted(strip),
         bytes.len(),
         quoted(name)
     ))
-}
-
-fn air(word: &str) -> Result<StripAir, Failure> {
-    match word {
-        "none" => Ok(StripAir::None),
-        "standard" => Ok(StripAir::Standard),
-        _ => Err(Failure::Usage(format!("the air {} is unknown: write none or standard", quoted(word)))),
-    }
 }
 
 // A dash is the standard output to many programs, and would be a file here.

@@ -15,8 +15,11 @@ pub const COMMAND: Command = Command {
         "raddlehue strip show FILE [flags]
 
 What a day strip says: body, date, air, point and step, how many azimuths it has
-and how many are absent, and each of them with its time. A file that is no strip
-is refused, by the number and the sentence of the library.
+and how many are absent, and each of them with its time. Air is none; an old
+strip, whose air byte is 1, says that it is measured at 1010 mbar and 10 degrees
+Celsius, and carried over: carried_over in the other forms, with both numbers
+beside it in JSON. A file that is no strip is refused, by the number and the
+sentence of the library.
 
 ",
         format_help!(),

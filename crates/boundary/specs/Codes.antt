@@ -1,6 +1,7 @@
 -- The codes of a body and of an air, and the refusals outside 01's numbers: no request can be formed, so they are given before all others.
-use mathlib.Core.Bool.{cond}
+use mathlib.Core.Bool.{_||_, cond}
 use mathlib.Core.List.{[], _∷_}
+use mathlib.Core.Path.{_≡_}
 use Prim.Native.Nat.{ℕ}
 use lib.Dec.{eqb, leb}
 use lib.Ieee.{Float}
@@ -12,9 +13,12 @@ use Rattle.calendar.specs.Refusal.{_else_, _unless_, first}
 use Rattle.numbers.specs.Whole.{between}
 use Rattle.refraction.specs.Air.{air-refusals}
 use Rattle.refraction.specs.declared.air.Air.{Air}
-use Rattle.refraction.specs.declared.air.Air.the-variants.{Measured, None, Standard}
+use Rattle.refraction.specs.declared.air.Air.the-variants.{Measured, None}
+use Rattle.refraction.specs.Double.{double}
 use Rattle.sky_vectors.specs.declared.geocentric.Body.{Body}
 use Rattle.sky_vectors.specs.declared.geocentric.Body.the-variants.{Moon, Sun}
+use Rattle.strip.specs.declared.air.StripAir.{StripAir}
+use Rattle.strip.specs.declared.air.StripAir.the-variants as Strips
 
 abbrev pub unknown-body : ℕ
 unknown-body = 101
@@ -51,31 +55,44 @@ body-of code = cond (eqb code sun) Sun Moon
 abbrev pub body-refusal : ℕ → ℕ
 body-refusal code = unknown-body unless leb code moon
 
--- the kinds of an air
+abbrev pub code-of : Body → ℕ
+code-of Sun = sun
+code-of Moon = moon
+
+-- the kinds of a request's air; 1 was standard, and is unknown
 abbrev pub none : ℕ
 none = 0
-
-abbrev pub standard : ℕ
-standard = 1
 
 abbrev pub measured : ℕ
 measured = 2
 
 abbrev pub air-of : ℕ → Float → Float → Air
-air-of kind pressure temperature = cond (eqb kind none) None (cond (eqb kind standard) Standard (Measured pressure temperature))
+air-of kind pressure temperature = cond (eqb kind none) None (Measured pressure temperature)
 
 abbrev pub kind-refusal : ℕ → ℕ
-kind-refusal kind = unknown-air unless leb kind measured
+kind-refusal kind = unknown-air unless (eqb kind none || eqb kind measured)
 
--- the code of a body, and the kind of an air
-abbrev pub code-of : Body → ℕ
-code-of Sun = sun
-code-of Moon = moon
+-- a strip's air may have been carried over too, which is no kind of a request's
+abbrev pub carried-over-kind : ℕ
+carried-over-kind = 3
 
-abbrev pub kind-of : Air → ℕ
-kind-of None = none
-kind-of Standard = standard
-kind-of (Measured pressure temperature) = measured
+abbrev pub strip-kind-of : StripAir → ℕ
+strip-kind-of Strips.None = none
+strip-kind-of (Strips.Measured pressure temperature) = measured
+strip-kind-of (Strips.CarriedOver pressure temperature) = carried-over-kind
+
+-- of measured air in a strip no pressure and no temperature is asked, since it is refused
+abbrev pub strip-air-of : ℕ → StripAir
+strip-air-of kind =
+    cond (eqb kind none) Strips.None
+    (cond (eqb kind measured) (Strips.Measured (double (pos 0)) (double (pos 0))) (Strips.CarriedOver (double (pos 0)) (double (pos 0))))
+
+abbrev pub strip-kind-refusal : ℕ → ℕ
+strip-kind-refusal kind = unknown-air unless (eqb kind carried-over-kind || (eqb kind none || eqb kind measured))
+
+-- THE CLAIM (02, Item 9): new requests can't name standard air, whose kind was 1, nor what is carried over; nor does a strip name standard air
+abbrev pub StandardUnnamed : Type 0
+StandardUnnamed = (kind-refusal 1 ≡ 102) × (kind-refusal 3 ≡ 102) × (strip-kind-refusal 1 ≡ 102)
 
 -- a code that is given in 64 bits: what is no number of 32 bits counts as the largest, which is no code
 abbrev pub largest : ℕ

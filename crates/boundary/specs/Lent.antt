@@ -7,8 +7,11 @@ use lib.IntN.{pos, ℤ}
 use Rattle.rise_set.specs.Answer.{RiseSetNumbers}
 use Rattle.sky.specs.Answer.{PlaceNumbers}
 use Rattle.sky.specs.declared.shown.Shown.{Shown}
+use Rattle.refraction.specs.Double.{double}
+use Rattle.strip.specs.declared.air.StripAir.{StripAir}
+use Rattle.strip.specs.declared.air.StripAir.the-variants.{CarriedOver, Measured, None}
 use Rattle.strip.specs.declared.header.Header.{Header}
-use Rattle.boundary.specs.Codes.{code-of, kind-of}
+use Rattle.boundary.specs.Codes.{code-of, strip-kind-of}
 
 -- 1 where there is something, and 0 where there is none
 abbrev pub flag : Bool → ℕ
@@ -35,4 +38,10 @@ rise-set-values seen = seen .rise .has ∷ seen .rise .minute ∷ seen .set .has
 -- air and body by their codes, year, month, day, longitude, latitude and step
 abbrev pub header-values : Header → List ℤ
 header-values h =
-    pos (kind-of (h .air)) ∷ pos (code-of (h .body)) ∷ h .year ∷ h .month ∷ h .day ∷ h .longitude ∷ h .latitude ∷ h .step ∷ []
+    pos (strip-kind-of (h .air)) ∷ pos (code-of (h .body)) ∷ h .year ∷ h .month ∷ h .day ∷ h .longitude ∷ h .latitude ∷ h .step ∷ []
+
+-- the pressure and the temperature that a strip's air was measured at; zeros where there is none
+abbrev pub measured-values : StripAir → List Float
+measured-values None = double (pos 0) ∷ double (pos 0) ∷ []
+measured-values (Measured pressure temperature) = pressure ∷ temperature ∷ []
+measured-values (CarriedOver pressure temperature) = pressure ∷ temperature ∷ []

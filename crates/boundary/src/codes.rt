@@ -1,12 +1,13 @@
-// The body and the air of a request, which C gives by a code. An unknown code is read as the last one, and refused before that matters.
+// The body and the air of a request and of a strip, which C gives by a code. An unknown code is read as the last one, and refused before that matters.
 use calendar::refusal::Verdict;
 use calendar::refusal::number_of;
 use numbers::whole::is_between;
 use refraction::air::Air;
 use sky_vectors::geocentric::Body;
+use strip::air::StripAir;
 ghost use mathlib.Core.Path.{_≡_};
 ghost use Rattle.calendar.specs.Refusal.{_else_, verdict-number};
-ghost use Rattle.boundary.specs.Codes.{air-of, body-of, body-refusal, code-in, code-of, code-refusal, kind-of, kind-refusal};
+ghost use Rattle.boundary.specs.Codes.{air-of, body-of, body-refusal, code-in, code-of, code-refusal, kind-refusal, strip-air-of, strip-kind-of, strip-kind-refusal};
 
 // The refusals outside 01's numbers.
 pub const UNKNOWN_BODY: u32 = 101;
@@ -32,12 +33,12 @@ const MOON: u32 = 1;
 // The largest number of 32 bits.
 const LARGEST: u32 = 4_294_967_295;
 
-// The kinds of an air.
+// The kinds of an air; the last is of a strip's alone.
 const NONE: u32 = 0;
 
-const STANDARD: u32 = 1;
-
 const MEASURED: u32 = 2;
+
+const CARRIED_OVER: u32 = 3;
 
 pub fn body_of(code: u32) -> Body
     ensures { λ r. ⌜ r ≡ body-of code ⌝ }
@@ -57,8 +58,6 @@ pub fn air_of(kind: u32, pressure: f64, temperature: f64) -> Air
 {
     if kind == NONE {
         Air::None
-    } else if kind == STANDARD {
-        Air::Standard
     } else {
         Air::Measured(pressure, temperature)
     }
@@ -67,7 +66,32 @@ pub fn air_of(kind: u32, pressure: f64, temperature: f64) -> Air
 pub fn kind_refusal(kind: u32) -> u32
     ensures { λ r. ⌜ r ≡ kind-refusal kind ⌝ }
 {
-    if kind <= MEASURED { 0 } else { UNKNOWN_AIR }
+    if kind == NONE {
+        return 0;
+    }
+    if kind == MEASURED { 0 } else { UNKNOWN_AIR }
+}
+
+// Of measured air no pressure and no temperature is asked, since no strip is written with it.
+pub fn strip_air_of(kind: u32) -> StripAir
+    ensures { λ r. ⌜ r ≡ strip-air-of kind ⌝ }
+{
+    if kind == NONE {
+        StripAir::None
+    } else if kind == MEASURED {
+        StripAir::Measured(0.0, 0.0)
+    } else {
+        StripAir::CarriedOver(0.0, 0.0)
+    }
+}
+
+pub fn strip_kind_refusal(kind: u32) -> u32
+    ensures { λ r. ⌜ r ≡ strip-kind-refusal kind ⌝ }
+{
+    if kind == CARRIED_OVER {
+        return 0;
+    }
+    kind_refusal(kind)
 }
 
 // One number, or the next where it is 0.
@@ -77,7 +101,7 @@ pub fn or_next(refusal: u32, next: u32) -> u32
     if refusal == 0 { next } else { refusal }
 }
 
-// The code of a body, and the kind of an air.
+// The code of a body, and the kind of a strip's air.
 pub fn code_of(body: Body) -> u32
     ensures { λ r. ⌜ r ≡ code-of body ⌝ }
 {
@@ -87,13 +111,13 @@ pub fn code_of(body: Body) -> u32
     }
 }
 
-pub fn kind_of(air: Air) -> u32
-    ensures { λ r. ⌜ r ≡ kind-of air ⌝ }
+pub fn strip_kind_of(air: StripAir) -> u32
+    ensures { λ r. ⌜ r ≡ strip-kind-of air ⌝ }
 {
     match air {
-        Air::None => NONE,
-        Air::Standard => STANDARD,
-        Air::Measured(_, _) => MEASURED,
+        StripAir::None => NONE,
+        StripAir::Measured(_, _) => MEASURED,
+        StripAir::CarriedOver(_, _) => CARRIED_OVER,
     }
 }
 

@@ -1,8 +1,10 @@
 // A start, a date, a point and a strip's header as C hands them over: their numbers in order.
-use super::codes::air_of;
 use super::codes::body_of;
+use super::codes::body_refusal;
 use super::codes::code_in;
-use super::codes::code_refusal;
+use super::codes::or_next;
+use super::codes::strip_air_of;
+use super::codes::strip_kind_refusal;
 use day::date::Date;
 use request::start::Start;
 use sky_vectors::station::Point;
@@ -54,15 +56,16 @@ pub fn point_of(numbers: &[i64; 3]) -> Point
 pub fn header_refusal(numbers: &[i64; 8]) -> u32
     ensures { λ r. ⌜ r ≡ header-code-refusal (now (numbers .entry)) ⌝ }
 {
-    code_refusal(code_in(numbers[1]), code_in(numbers[0]))
+    let by_body = body_refusal(code_in(numbers[1]));
+    let by_air = strip_kind_refusal(code_in(numbers[0]));
+    or_next(by_body, by_air)
 }
 
-// Of measured air no pressure and no temperature is asked, since it is refused.
 pub fn header_of(numbers: &[i64; 8]) -> Header
     ensures { λ r. ⌜ r ≡ header-from (now (numbers .entry)) ⌝ }
 {
     Header {
-        air: air_of(code_in(numbers[0]), 0.0, 0.0),
+        air: strip_air_of(code_in(numbers[0])),
         body: body_of(code_in(numbers[1])),
         year: numbers[2],
         month: numbers[3],

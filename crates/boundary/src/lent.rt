@@ -1,12 +1,13 @@
 // What is written behind a reference to an array, whole: the logic is not told how long the list behind such a reference is.
 use super::codes::code_of;
-use super::codes::kind_of;
+use super::codes::strip_kind_of;
 use arctangent::direction::angle_or;
 use arctangent::direction::is_there;
 use rise_set::answer::RiseSet;
 use rise_set::crossing::Crossing;
 use sky::shown::Shown;
 use sky_vectors::place::Place;
+use strip::air::StripAir;
 use strip::header::Header;
 ghost use mathlib.Core.List.{[], _∷_};
 ghost use mathlib.Core.Path.{_≡_};
@@ -14,7 +15,7 @@ ghost use Rattle.rise_set.specs.Answer.{rise-set-numbers};
 ghost use Rattle.rise_set.specs.Crossing.{crossing-numbers};
 ghost use Rattle.sky.specs.Answer.{place-numbers};
 ghost use Rattle.sky_vectors.specs.Place.{InTurns};
-ghost use Rattle.boundary.specs.Lent.{flag, header-values, place-flag, place-values, rise-set-values, shown-flag, shown-values};
+ghost use Rattle.boundary.specs.Lent.{flag, header-values, measured-values, place-flag, place-values, rise-set-values, shown-flag, shown-values};
 
 pub fn put_pair(pair: &mut [i64; 2], first: i64, second: i64)
     ensures { λ _. ⌜ now (pair .exit) ≡ first ∷ second ∷ [] ⌝ }
@@ -108,7 +109,7 @@ pub fn put_header(lent: &mut [i64; 8], header: Header)
     let air = header.air;
     let body = header.body;
     *lent = [
-        kind_of(air) as i64,
+        strip_kind_of(air) as i64,
         code_of(body) as i64,
         header.year,
         header.month,
@@ -117,6 +118,17 @@ pub fn put_header(lent: &mut [i64; 8], header: Header)
         header.latitude,
         header.step,
     ];
+}
+
+// The pressure in mbar and the temperature in °C of a strip's air, zeros where there is none.
+pub fn put_measured(lent: &mut [f64; 2], air: StripAir)
+    ensures { λ _. ⌜ now (lent .exit) ≡ measured-values air ⌝ }
+{
+    match air {
+        StripAir::None => *lent = [0.0, 0.0],
+        StripAir::Measured(pressure, temperature) => *lent = [pressure, temperature],
+        StripAir::CarriedOver(pressure, temperature) => *lent = [pressure, temperature],
+    }
 }
 
 // Which strip, where its azimuth octets begin, and how many there are.

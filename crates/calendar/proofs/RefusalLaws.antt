@@ -1,5 +1,5 @@
 -- No two refusals have one number, and none has 0. A number is read back as its refusal; two refusals with one number are read back from the same number.
-use mathlib.Core.Bool.{Bool, cond, false, true}
+use mathlib.Core.Bool.{Bool, _&&_, cond, false, true}
 use mathlib.Core.List.{List, [], _++_, _∷_}
 use mathlib.Core.Path.{_∙_, _≡_, ap, refl, sym}
 use Prim.Native.Nat.{_<_, suc, ℕ}
@@ -22,7 +22,7 @@ one-answer tells {answer} e = record { equal = e; only = λ other f. tells other
 strip-numbered : ℕ → StripRefusal
 strip-numbered n =
     cond (eqb n 20) Strips.Length (cond (eqb n 21) Strips.Version (cond (eqb n 22) Strips.AirOrBody (cond (eqb n 23) Strips.Date (cond (eqb n 24) Strips.Point
-    (cond (eqb n 25) Strips.Step (cond (eqb n 26) Strips.Azimuth (cond (eqb n 27) Strips.NotFound Strips.Buffer)))))))
+    (cond (eqb n 25) Strips.Step (cond (eqb n 26) Strips.Azimuth (cond (eqb n 27) Strips.NotFound (cond (eqb n 28) Strips.Buffer Strips.MeasuredAir))))))))
 
 strip-above : (refusal : StripRefusal) → 19 < strip-number refusal
 strip-above Strips.Length = lit< tt
@@ -34,6 +34,7 @@ strip-above Strips.Step = lit< tt
 strip-above Strips.Azimuth = lit< tt
 strip-above Strips.NotFound = lit< tt
 strip-above Strips.Buffer = lit< tt
+strip-above Strips.MeasuredAir = lit< tt
 
 proposal-numbered : ℕ → ProposalRefusal
 proposal-numbered n = cond (eqb n 29) Proposals.Points Proposals.Opposite
@@ -47,7 +48,7 @@ pub numbered : ℕ → Refusal
 numbered n =
     cond (eqb n 1) Of.Year (cond (eqb n 2) Of.Month (cond (eqb n 3) Of.Day (cond (eqb n 4) Of.Clock (cond (eqb n 5) Of.Ut1 (cond (eqb n 6) Of.DeltaT
     (cond (eqb n 7) Of.Longitude (cond (eqb n 8) Of.Latitude (cond (eqb n 9) Of.Height (cond (eqb n 10) Of.Pressure (cond (eqb n 11) Of.Temperature
-    (cond (eqb n 12) Of.ShortBuffer (cond (eqb n 14) Of.Opposite (cond (eqb n 15) Of.NotReduced (cond (ltb 28 n) (Of.Proposal (proposal-numbered n))
+    (cond (eqb n 12) Of.ShortBuffer (cond (eqb n 14) Of.Opposite (cond (eqb n 15) Of.NotReduced (cond (ltb 28 n && ltb n 32) (Of.Proposal (proposal-numbered n))
     (cond (ltb 19 n) (Of.Strip (strip-numbered n)) Of.NotALine)))))))))))))))
 
 read-strip : (refusal : StripRefusal) → numbered (strip-number refusal) ≡ Of.Strip refusal
@@ -61,6 +62,7 @@ read-strip Strips.Step = refl
 read-strip Strips.Azimuth = refl
 read-strip Strips.NotFound = refl
 read-strip Strips.Buffer = refl
+read-strip Strips.MeasuredAir = refl
 
 read-proposal : (refusal : ProposalRefusal) → numbered (proposal-number refusal) ≡ Of.Proposal refusal
 unfolding numbered proposal-numbered
@@ -182,6 +184,10 @@ check n e f = alone (e ∙ ap (λ (p : Bool). n unless p) f)
 
 -- checks, and those that are made where they pass
 module _ (xs ys : List ℕ) where
+  pub last-passed : first ys ≡ 0 → first (xs ++ ys) ≡ first xs
+  unfolding first
+  last-passed e = first-append xs ys ∙ ap (λ (n : ℕ). first xs else n) e ∙ first-one (first xs)
+
   pub passed-first : first xs ≡ 0 → first (xs ++ ys) ≡ first ys
   passed-first e = first-append xs ys ∙ ap (λ (n : ℕ). n else first ys) e
 

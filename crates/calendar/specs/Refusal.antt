@@ -1,4 +1,4 @@
--- Numbered refusals (01, "A request and its numbered refusals"; 02, Items 6 and 7): 0 stands for none.
+-- Numbered refusals (01, "A request and its numbered refusals"; 02, Items 6, 7 and 9): 0 stands for none.
 use mathlib.Core.Bool.{Bool, cond}
 use mathlib.Core.List.{List, [], _∷_}
 use mathlib.Core.Path.{_≡_}
@@ -24,6 +24,7 @@ strip-number Strips.Step = 25
 strip-number Strips.Azimuth = 26
 strip-number Strips.NotFound = 27
 strip-number Strips.Buffer = 28
+strip-number Strips.MeasuredAir = 32
 
 -- the refusals of a proposal
 abbrev pub proposal-number : ProposalRefusal → ℕ

@@ -13,6 +13,7 @@ pub enum StripRefusal {
     Azimuth,
     NotFound,
     Buffer,
+    MeasuredAir,
 }
 
 // Of a proposal: 02's 29 and 30.
@@ -61,6 +62,7 @@ fn strip_number(refusal: StripRefusal) -> u32
         StripRefusal::Azimuth => 26,
         StripRefusal::NotFound => 27,
         StripRefusal::Buffer => 28,
+        StripRefusal::MeasuredAir => 32,
     }
 }
 

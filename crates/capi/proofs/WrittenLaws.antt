@@ -28,7 +28,7 @@ module _ {A B : Type 0} (told : A → B) (answer : Answer A) (before : B) where
   seen e same =
       answered (answer .refusal) (told (answer .value)) before (sym (ap (λ (a : Answer A). a .refusal) e)) (same ∙ ap (λ (a : Answer A). told (a .value)) e)
 
--- an answer that is written through two references: a flag, and the numbers beside it
+-- an answer that is written through two references: a flag and the numbers beside it, or the numbers of a header and of its air
 module _ {A B C : Type 0} (flag : A → B) (values : A → C) (answer : Answer A) (flag-before : B) (before : C) where
   abbrev Both : ℕ → B → C → Type 0
   Both r flag-left left = (r ≡ answer .refusal) × ((flag-left ≡ written flag answer flag-before) × (left ≡ written values answer before))

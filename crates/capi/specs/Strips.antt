@@ -3,10 +3,12 @@ use mathlib.Core.Bool.{cond}
 use mathlib.Core.List.{List, [], _++_, _∷_}
 use Prim.Native.Nat.{ℕ}
 use lib.Dec.{eqb}
+use lib.Ieee.{Float}
 use lib.IntN.{ℤ}
 use lib.ListN.{drop, length}
 use Rattle.boundary.specs.Codes.{body-of, body-refusal, no-step}
 use Rattle.boundary.specs.Given.{header-code-refusal, header-from, point-from}
+use Rattle.boundary.specs.Lent.{measured-values}
 use Rattle.calendar.specs.Refusal.{strip-number}
 use Rattle.calendar.specs.declared.refusal.StripRefusal.the-variants as Strips
 use Rattle.day.specs.Date.{date-from}
@@ -15,6 +17,7 @@ use Rattle.day_azimuths.specs.Azimuths.{worked}
 use Rattle.sky.specs.Answer.{Answer}
 use Rattle.strip.specs.Checks.{absent, steps}
 use Rattle.strip.specs.Format.{Strip, azimuth-part, encode, header-size, strip-of}
+use Rattle.strip.specs.declared.header.Header.{Header}
 use Rattle.strip_reader.specs.declared.reader.StripAzimuth.{StripAzimuth}
 use Rattle.strip_reader.specs.declared.reader.StripAzimuth.the-variants.{Absent, NoAzimuth, NoStep, Towards}
 use Rattle.strip_writer.specs.Writing.{write}
@@ -36,6 +39,10 @@ octets-left numbers azimuths before =
     written-one (coded-write numbers azimuths before .refusal) (octets ++ drop (length octets) before) before
 
 -- ---- read
+
+-- the pressure and the temperature of a strip's air
+abbrev pub header-measured : Header → List Float
+header-measured header = measured-values (header .air)
 
 -- 106 where there is no such step, 26 for a number that is no azimuth
 abbrev pub azimuth-refusal : StripAzimuth → ℕ

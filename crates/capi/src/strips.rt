@@ -3,6 +3,7 @@ use boundary::codes::NO_STEP;
 use boundary::given::header_of;
 use boundary::given::header_refusal;
 use boundary::lent::put_header;
+use boundary::lent::put_measured;
 use boundary::lent::put_part;
 use calendar::refusal::Refusal;
 use calendar::refusal::StripRefusal;
@@ -22,17 +23,24 @@ ghost use Rattle.boundary.specs.Lent.{header-values};
 ghost use Rattle.strip_reader.specs.Lookup.{which};
 ghost use Rattle.strip_reader.specs.Reading.{azimuth-at, read};
 ghost use Rattle.capi.specs.Answers.{written, written-one};
-ghost use Rattle.capi.specs.Strips.{azimuth-number, azimuth-refusal, coded-write, octets-left, part-values};
+ghost use Rattle.capi.specs.Strips.{azimuth-number, azimuth-refusal, coded-write, header-measured, octets-left, part-values};
 
-// The header's fields; the azimuths are judged, and stay where they are.
+// The header's fields, and what its air was measured at; the azimuths are judged, and stay where they are.
 #[no_mangle]
-pub extern "C" fn raddlehue_strip_read(octets: &[u8], strip: &mut [i64; 8]) -> u32
+pub extern "C" fn raddlehue_strip_read(
+    octets: &[u8],
+    strip: &mut [i64; 8],
+    measured: &mut [f64; 2],
+) -> u32
     ensures { λ r. ⌜ r ≡ read (now (octets .entry)) .refusal ⌝ }
     ensures { λ _. ⌜ now (strip .exit) ≡ written header-values (read (now (octets .entry))) (now (strip .entry)) ⌝ }
+    ensures { λ _. ⌜ now (measured .exit) ≡ written header-measured (read (now (octets .entry))) (now (measured .entry)) ⌝ }
 {
     match read(octets) {
         Reading::Read(header) => {
+            let air = header.air;
             put_header(strip, header);
+            put_measured(measured, air);
             0
         }
         Reading::Refused(refused) => number_of(refused),

@@ -2,12 +2,12 @@
 use mathlib.Core.Bool.{Bool, _&&_, true}
 use mathlib.Core.List.{List, [], _++_, _∷_}
 use mathlib.Core.Path.{_∙_, _≡_, ap₂, refl, sym}
-use Prim.Native.Nat.{_*_, _/_, _≤_, suc, zero, ℕ}
+use Prim.Native.Nat.{_*_, _/_, suc, zero, ℕ}
 use native.Mathlib.Omega.{arith}
-use lib.Dec.{eqb, leb}
+use lib.Dec.{eqb}
 use lib.IntN.{natAbs, pos, ℤ}
 use lib.ListN.{drop, length}
-use borrow.Author.Tests.{eq-eqb, le-leb, lt-ltb}
+use borrow.Author.Tests.{eq-eqb, lt-ltb}
 use Rattle.arctangent.specs.Direction.{Reduced}
 use Rattle.arctangent.specs.declared.direction.Direction.{Direction}
 use Rattle.arctangent.specs.declared.direction.Direction.the-variants.{None, Towards}
@@ -18,15 +18,14 @@ use Rattle.day.specs.Curve.{azimuth-on, each-below, minute-of}
 use Rattle.day.specs.Date.{count, days}
 use Rattle.day.specs.declared.date.Date.{Date}
 use Rattle.numbers.specs.Whole.{between}
-use Rattle.refraction.specs.declared.air.Air.{Air}
 use Rattle.request.specs.Request.{date-refusals, point-refusals, scale-refusals}
 use Rattle.sky_vectors.proofs.PlaceLaws.{place-at-in-turns}
 use Rattle.sky_vectors.specs.SkyRange.{latitude-limit, longitude-limit}
 use Rattle.sky_vectors.specs.declared.geocentric.Body.{Body}
-use Rattle.sky_vectors.specs.declared.geocentric.Body.the-variants.{Moon, Sun}
 use Rattle.sky_vectors.specs.declared.station.Point.{Point}
+use Rattle.strip.specs.Air.{is-none}
 use Rattle.strip.specs.Checks.{are-azimuths, full-turn, header-refusals, is-azimuth, is-date, is-point, steps}
-use Rattle.strip.specs.Format.{Strip, air-byte, body-byte}
+use Rattle.strip.specs.Format.{Strip}
 use Rattle.strip_writer.specs.Writing.{strip-refusals}
 use Rattle.sum_rules.specs.Instant.{minus}
 use Rattle.text.proofs.WordLaws.{all-append}
@@ -62,14 +61,10 @@ module _ (date : Date) (body : Body) (point : Point) (step : ℤ) where
   unfolding worked
   worked-count = below-length (λ i. strip-azimuth (azimuth-on date body point (i * natAbs step))) (steps step)
 
-body-small : (body : Body) → body-byte body ≤ 1
-body-small Sun = omega arith
-body-small Moon = omega arith
-
 -- ---- the header
-module _ (air : Air) (date : Date) (body : Body) (point : Point) (step : ℤ) (room : ℕ) (small : air-byte air ≤ 1) (e : first (azimuths-refusals date point step room) ≡ 0) where
+module _ (date : Date) (body : Body) (point : Point) (step : ℤ) (room : ℕ) (e : first (azimuths-refusals date point step room) ≡ 0) where
   abbrev strip : Strip
-  strip = day-strip air date body point step
+  strip = day-strip date body point step
 
   abbrev scales : List ℕ
   scales = scale-refusals (date .ut1) (date .«delta_t»)
@@ -100,20 +95,17 @@ module _ (air : Air) (date : Date) (body : Body) (point : Point) (step : ℤ) (r
   unfolding is-point
   point-good = ap₂ _&&_ (passes 6 east-west (by-longitude .0)) (passes 7 north-south (by-latitude .0))
 
-  codes-good : (leb (air-byte air) 1 && leb (body-byte body) 1) ≡ true
-  codes-good = ap₂ _&&_ (le-leb (air-byte air) 1 small) (le-leb (body-byte body) 1 (body-small body))
+  header-good : first (header-refusals (strip .header)) ≡ 0
+  header-good = unfold first in simp (date-good, point-good, step-passes date point step room e)
 
-  header-good : first (header-refusals (air-byte air) (body-byte body) (strip .header)) ≡ 0
-  header-good = unfold first in simp (codes-good, date-good, point-good, step-passes date point step room e)
+  abbrev others : List ℕ
+  others = 20 unless eqb (length (strip .azimuths)) (steps step) ∷ 26 unless are-azimuths (strip .azimuths) ∷ 32 unless is-none (strip .header .air) ∷ []
 
-  others-good : first (20 unless eqb (length (strip .azimuths)) (steps step) ∷ 26 unless are-azimuths (strip .azimuths) ∷ []) ≡ 0
+  others-good : first others ≡ 0
   others-good = unfold first in simp (eq-eqb (length (strip .azimuths)) (steps step) (worked-count date body point step), worked-good date body point step)
 
   writable : first (strip-refusals strip) ≡ 0
-  writable =
-      passed-first (header-refusals (air-byte air) (body-byte body) (strip .header))
-      (20 unless eqb (length (strip .azimuths)) (steps step) ∷ 26 unless are-azimuths (strip .azimuths) ∷ []) header-good
-      ∙ others-good
+  writable = passed-first (header-refusals (strip .header)) others header-good ∙ others-good
 
 pub every-day-writable : EveryDayWritable
-every-day-writable air date body point step room small e = writable air date body point step room small (sym (refusal-is date point step room) ∙ e)
+every-day-writable date body point step room e = writable date body point step room (sym (refusal-is date point step room) ∙ e)

@@ -1,23 +1,23 @@
 -- A day that is worked is a strip that can be written.
 use mathlib.Core.Path.{_≡_}
-use Prim.Native.Nat.{_≤_, ℕ}
+use Prim.Native.Nat.{ℕ}
 use lib.IntN.{ℤ}
 use Rattle.calendar.specs.Refusal.{first}
 use Rattle.day.specs.declared.date.Date.{Date}
-use Rattle.refraction.specs.declared.air.Air.{Air}
 use Rattle.sky_vectors.specs.declared.geocentric.Body.{Body}
 use Rattle.sky_vectors.specs.declared.station.Point.{Point}
-use Rattle.strip.specs.Format.{Strip, air-byte, strip-of}
+use Rattle.strip.specs.Format.{Strip, strip-of}
+use Rattle.strip.specs.declared.air.StripAir.the-variants.{None}
 use Rattle.strip_writer.specs.Writing.{strip-refusals}
 use Rattle.day_azimuths.specs.Answer.{day-azimuths}
 use Rattle.day_azimuths.specs.Azimuths.{worked}
 
--- the strip of a day: its header from the request, and its azimuths
-abbrev pub day-strip : Air → Date → Body → Point → ℤ → Strip
-day-strip air date body point step =
+-- the strip of a day: its header from the request, without air, and its azimuths
+abbrev pub day-strip : Date → Body → Point → ℤ → Strip
+day-strip date body point step =
     strip-of
     (record {
-      air = air;
+      air = None;
       body = body;
       year = date .year;
       month = date .month;
@@ -28,8 +28,8 @@ day-strip air date body point step =
     })
     (worked date body point step)
 
--- THE CLAIM: the writer refuses none whose request is answered, without air or in standard air, but for a small buffer
+-- THE CLAIM: the writer refuses none whose request is answered, but for a small buffer
 abbrev pub EveryDayWritable : Type 0
 EveryDayWritable =
-    (air : Air) (date : Date) (body : Body) (point : Point) (step : ℤ) (room : ℕ) → air-byte air ≤ 1 → day-azimuths date point step room .refusal ≡ 0
-    → first (strip-refusals (day-strip air date body point step)) ≡ 0
+    (date : Date) (body : Body) (point : Point) (step : ℤ) (room : ℕ) → day-azimuths date point step room .refusal ≡ 0
+    → first (strip-refusals (day-strip date body point step)) ≡ 0

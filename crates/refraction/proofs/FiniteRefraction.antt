@@ -3,7 +3,7 @@
 -- (1.02·c)/(60·s) is at most twice the largest cosine, since the sine of q is above zero.
 use mathlib.Core.Bool.{false, true}
 use mathlib.Core.List.{[], _∷_}
-use mathlib.Core.Path.{_≡_, refl}
+use mathlib.Core.Path.{_≡_}
 use Prim.Native.Nat.{_*_, _+_, _-_, _<_, _≤_, ℕ}
 use native.Mathlib.Omega.{arith}
 use lib.Dec.{lit<, lit≤}
@@ -14,13 +14,13 @@ use lib.Ieee.Fits.{down-pos}
 use borrow.Author.Tests.{le-ltb}
 use Rattle.numbers.specs.declared.sine.SineCosine.{SineCosine}
 use Rattle.number_rules.proofs.SineSize.{cosine-most, sine-most}
-use Rattle.refraction.specs.Air.{air-refusals, pressure-passes, standard-pressure, standard-temperature, temperature-passes}
+use Rattle.refraction.specs.Air.{air-refusals, pressure-passes, temperature-passes}
 use Rattle.refraction.specs.Double.{IsFinite, _+d_, _*d_, _/d_, double, nearest}
 use Rattle.numbers.specs.SineCosine.{sine-cosine}
 use Rattle.refraction.specs.Refraction.{FiniteWhereAccepted, IsRefracted, formula, measured-refraction, raised, refraction-in}
 use Rattle.calendar.specs.Refusal.{_unless_, first}
 use Rattle.refraction.specs.declared.air.Air.{Air}
-use Rattle.refraction.specs.declared.air.Air.the-variants.{Measured, None, Standard}
+use Rattle.refraction.specs.declared.air.Air.the-variants.{Measured, None}
 use Rattle.refraction.proofs.DoubleLaws.{AtLeast1, AtMost, bounded, bounded-finite, product-least, product-most, quotient-most, rounds-least, rounds-most, whole-least, whole-most, within-most}
 use Rattle.refraction.proofs.RefractionLaws.{of-refraction, raised-sine}
 use Rattle.calendar.proofs.RefusalLaws.{none, passes}
@@ -69,7 +69,6 @@ measured-finite P T pressure temperature refracted =
 air-finite : (air : Air) {e : ℤ} → first (air-refusals air) ≡ 0 → IsRefracted e → IsFinite (refraction-in air e)
 unfolding refraction-in air-refusals Ieee.le Ieee.ofInt
 air-finite None accepted refracted = tt
-air-finite Standard accepted refracted = measured-finite standard-pressure standard-temperature refl refl refracted
 air-finite (Measured P T) accepted refracted =
     let pressure = none (10 unless pressure-passes P) (11 unless temperature-passes T ∷ []) accepted in
     let temperature = none (11 unless temperature-passes T) [] (pressure .1) in

@@ -1,4 +1,4 @@
--- The air of a request (01, "A request and its numbered refusals").
+-- The air of a request (01, "A request and its numbered refusals", as 02's Item 9 mends it): none, or measured with a pressure and a temperature.
 use mathlib.Core.Bool.{Bool, _&&_}
 use mathlib.Core.List.{List, [], _∷_}
 use Prim.Native.Nat.{ℕ}
@@ -8,14 +8,7 @@ use lib.Ieee.{Float}
 use Rattle.refraction.specs.Double.{double}
 use Rattle.calendar.specs.Refusal.{_unless_}
 use Rattle.refraction.specs.declared.air.Air.{Air}
-use Rattle.refraction.specs.declared.air.Air.the-variants.{Measured, None, Standard}
-
--- standard means measured at 1010 and 10
-abbrev pub standard-pressure : Float
-standard-pressure = double (pos 1010)
-
-abbrev pub standard-temperature : Float
-standard-temperature = double (pos 10)
+use Rattle.refraction.specs.declared.air.Air.the-variants.{Measured, None}
 
 -- lo to hi, both included; a float that is not a number is between nothing
 abbrev pub between-doubles : Float → Float → Float → Bool
@@ -31,5 +24,4 @@ temperature-passes T = between-doubles (double (negsuc 79)) T (double (pos 80))
 
 unfoldable pub air-refusals : Air → List ℕ
 air-refusals None = []
-air-refusals Standard = []
 air-refusals (Measured P T) = 10 unless pressure-passes P ∷ 11 unless temperature-passes T ∷ []

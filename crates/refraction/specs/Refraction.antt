@@ -8,12 +8,12 @@ use lib.Signed.{_≤ℤ_, ltZ}
 use Rattle.arithmetic.specs.Floor.{⌊_÷_⌋}
 use Rattle.number_rules.specs.Angle.{quarter-turn}
 use Rattle.numbers.specs.declared.sine.SineCosine.{SineCosine}
-use Rattle.refraction.specs.Air.{air-refusals, standard-pressure, standard-temperature, temperature-passes}
+use Rattle.refraction.specs.Air.{air-refusals, temperature-passes}
 use Rattle.refraction.specs.Double.{IsFinite, IsZero, _+d_, _*d_, _/d_, double, nearest, zero-degrees}
 use Rattle.numbers.specs.SineCosine.{sine-cosine}
 use Rattle.calendar.specs.Refusal.{first}
 use Rattle.refraction.specs.declared.air.Air.{Air}
-use Rattle.refraction.specs.declared.air.Air.the-variants.{Measured, None, Standard}
+use Rattle.refraction.specs.declared.air.Air.the-variants.{Measured, None}
 
 -- worked at and above -83,337,000 units, for both bodies, and zero below (02, Item 3; 01 had 0)
 abbrev pub lowest-refracted : ℤ
@@ -40,7 +40,6 @@ measured-refraction P T e = formula P T (sine-cosine (raised e))
 -- zero if there is no air
 unfoldable pub refraction-in : Air → ℤ → Float
 refraction-in None e = zero-degrees
-refraction-in Standard e = measured-refraction standard-pressure standard-temperature e
 refraction-in (Measured P T) e = measured-refraction P T e
 
 unfoldable pub refraction : Air → ℤ → Float

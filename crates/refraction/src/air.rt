@@ -10,14 +10,8 @@ ghost use Rattle.refraction.specs.Air.{between-doubles, air-refusals};
 // Measured with a pressure in mbar and a temperature in °C.
 pub enum Air {
     None,
-    Standard,
     Measured(f64, f64),
 }
-
-// Standard means measured at this pressure and this temperature.
-pub const STANDARD_PRESSURE: f64 = 1010.0;
-
-pub const STANDARD_TEMPERATURE: f64 = 10.0;
 
 // A NaN is between nothing.
 fn is_between(lo: f64, x: f64, hi: f64) -> bool
@@ -32,7 +26,6 @@ pub fn air_verdict(air: Air) -> Verdict
 {
     match air {
         Air::None => Verdict::Passed,
-        Air::Standard => Verdict::Passed,
         Air::Measured(pressure, temperature) => {
             let by_pressure = unless(Refusal::Pressure, is_between(0.0, pressure, 1200.0));
             let by_temperature = unless(Refusal::Temperature, is_between(-80.0, temperature, 80.0));

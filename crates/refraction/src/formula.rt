@@ -1,7 +1,5 @@
 // How much the air raises a body above its true elevation (004 equation 42).
 use super::air::Air;
-use super::air::STANDARD_PRESSURE;
-use super::air::STANDARD_TEMPERATURE;
 use numbers::sine::SineCosine;
 use numbers::sine::sine_cosine_in;
 use numbers::whole::floor_div;
@@ -51,12 +49,6 @@ pub fn refraction(table: &[u32; 361], air: Air, elevation: i64) -> f64
     }
     match air {
         Air::None => 0.0,
-        Air::Standard => measured_refraction(
-            table,
-            STANDARD_PRESSURE,
-            STANDARD_TEMPERATURE,
-            elevation,
-        ),
         Air::Measured(p, t) => measured_refraction(table, p, t, elevation),
     }
 }

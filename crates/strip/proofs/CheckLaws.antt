@@ -1,4 +1,4 @@
--- What the checks 22 to 25 say where they pass: every number of a header has room in its width, and the step divides the day.
+-- What the checks 23 to 25 say where they pass: every number of a header has room in its width, and the step divides the day.
 use mathlib.Core.Bool.{Bool, _&&_, _||_, cond, false, true}
 use mathlib.Core.List.{[]}
 use mathlib.Core.Logic.{_⊎_, inl, inr, ⊎-elim}
@@ -129,9 +129,7 @@ steps-most z = div-le-self minutes (natAbs z)
 
 -- ---- the whole header
 
-pub record Passes (air body : ℕ) (header : Header) : Type 0 where
-  pub air-small : air ≤ 1
-  pub body-small : body ≤ 1
+pub record Passes (header : Header) : Type 0 where
   pub year : Natural 1900 2100 (header .year)
   pub month : Natural 1 12 (header .month)
   pub day : Natural 1 31 (header .day)
@@ -140,21 +138,15 @@ pub record Passes (air body : ℕ) (header : Header) : Type 0 where
   pub step-passes : is-step (header .step) ≡ true
   pub step : Natural 1 10 (header .step)
 
-module _ (air body : ℕ) (header : Header) (e : first (header-refusals air body header) ≡ 0) where
-  abbrev by-code : (22 unless (leb air 1 && leb body 1) ≡ 0) × (first (drop 1 (header-refusals air body header)) ≡ 0)
-  by-code = none (22 unless (leb air 1 && leb body 1)) (drop 1 (header-refusals air body header)) e
+module _ (header : Header) (e : first (header-refusals header) ≡ 0) where
+  abbrev by-date : (23 unless is-date header ≡ 0) × (first (drop 1 (header-refusals header)) ≡ 0)
+  by-date = none (23 unless is-date header) (drop 1 (header-refusals header)) e
 
-  abbrev by-date : (23 unless is-date header ≡ 0) × (first (drop 2 (header-refusals air body header)) ≡ 0)
-  by-date = none (23 unless is-date header) (drop 2 (header-refusals air body header)) (by-code .1)
-
-  abbrev by-point : (24 unless is-point header ≡ 0) × (first (drop 3 (header-refusals air body header)) ≡ 0)
-  by-point = none (24 unless is-point header) (drop 3 (header-refusals air body header)) (by-date .1)
+  abbrev by-point : (24 unless is-point header ≡ 0) × (first (drop 2 (header-refusals header)) ≡ 0)
+  by-point = none (24 unless is-point header) (drop 2 (header-refusals header)) (by-date .1)
 
   abbrev by-step : (25 unless is-step (header .step) ≡ 0) × (first [] ≡ 0)
   by-step = none (25 unless is-step (header .step)) [] (by-point .1)
-
-  codes : (leb air 1 && leb body 1) ≡ true
-  codes = passes 21 (leb air 1 && leb body 1) (by-code .0)
 
   date : day-count (header .year) (header .month) (header .day) .refusal ≡ 0
   unfolding is-date
@@ -173,11 +165,9 @@ module _ (air body : ℕ) (header : Header) (e : first (header-refusals air body
   step-good : is-step (header .step) ≡ true
   step-good = passes 24 (is-step (header .step)) (by-step .0)
 
-  pub header-passes : Passes air body header
+  pub header-passes : Passes header
   header-passes =
       record {
-        air-small = leb-true air 1 (first-of (leb air 1) (leb body 1) codes);
-        body-small = leb-true body 1 (second-of (leb air 1) (leb body 1) codes);
         year = year-natural (header .year) (header .month) (header .day) date;
         month = month-natural (header .year) (header .month) (header .day) date;
         day = day-natural (header .year) (header .month) (header .day) date;

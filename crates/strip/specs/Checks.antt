@@ -1,10 +1,10 @@
--- The checks that reader and writer have in common (02, Item 6: refusals 22 to 25), and what an azimuth of a strip is.
+-- The checks that reader and writer have in common (02, Item 6: refusals 23 to 25), and what an azimuth of a strip is.
 use mathlib.Core.Bool.{Bool, _&&_, _||_, true}
 use mathlib.Core.List.{List, [], _∷_}
 use mathlib.Core.Logic.{_↔_}
 use mathlib.Core.Path.{_≡_}
 use Prim.Native.Nat.{_/_, ℕ}
-use lib.Dec.{eqb, leb, ltb}
+use lib.Dec.{eqb, ltb}
 use lib.IntN.{natAbs, pos, ℤ}
 use lib.Signed.{leZ}
 use Rattle.calendar.specs.Refusal.{_unless_}
@@ -56,11 +56,10 @@ is-step step = same step (pos 1) || (same step (pos 2) || (same step (pos 5) || 
 abbrev pub steps : ℤ → ℕ
 steps step = minutes / natAbs step
 
--- 22 air or body byte, 23 date, 24 point, 25 step
-abbrev pub header-refusals : ℕ → ℕ → Header → List ℕ
-header-refusals air body header =
-    22 unless (leb air 1 && leb body 1)
-    ∷ 23 unless is-date header
+-- 23 date, 24 point, 25 step
+abbrev pub header-refusals : Header → List ℕ
+header-refusals header =
+    23 unless is-date header
     ∷ 24 unless is-point header
     ∷ 25 unless is-step (header .step)
     ∷ []

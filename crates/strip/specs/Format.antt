@@ -1,4 +1,4 @@
--- A day strip and its octets (02, Item 6: "The strip, all numbers big-endian, has ..").
+-- A day strip and its octets (02, Item 6: "The strip, all numbers big-endian, has ..", with the air of Item 9).
 use mathlib.Core.Bool.{cond}
 use mathlib.Core.List.{List, [], _++_, _∷_}
 use mathlib.Core.Path.{_≡_}
@@ -7,10 +7,9 @@ use lib.Dec.{eqb}
 use lib.IntN.{natAbs, pos}
 use lib.ListN.{drop, getD, length}
 use Rattle.octets.specs.Octets.{alike, complement, from-complement, joined, parted, total}
-use Rattle.refraction.specs.declared.air.Air.{Air}
-use Rattle.refraction.specs.declared.air.Air.the-variants.{Measured, None, Standard}
 use Rattle.sky_vectors.specs.declared.geocentric.Body.{Body}
 use Rattle.sky_vectors.specs.declared.geocentric.Body.the-variants.{Moon, Sun}
+use Rattle.strip.specs.Air.{air-in, written-air}
 use Rattle.strip.specs.declared.header.Header.{Header}
 
 -- air, body, date, point and step, and one azimuth per step from minute 0, in 10⁻⁷ degree
@@ -21,16 +20,7 @@ pub record Strip : Type 0 where
 abbrev pub strip-of : Header → List ℕ → Strip
 strip-of header azimuths = record { header = header; azimuths = azimuths }
 
--- ---- the octets of an air and of a body
-
--- 0 none, 1 standard; measured air has none, and 2 is refused
-abbrev pub air-byte : Air → ℕ
-air-byte None = 0
-air-byte Standard = 1
-air-byte (Measured P T) = 2
-
-abbrev pub air-in : ℕ → Air
-air-in byte = cond (eqb byte 0) None Standard
+-- ---- the octet of a body
 
 -- 0 Sun, 1 Moon
 abbrev pub body-byte : Body → ℕ
@@ -74,7 +64,7 @@ unfoldable pub header-numbers : Header → ℕ → List ℕ
 header-numbers header count =
     (header-follows + azimuth-size * count)
     ∷ version
-    ∷ air-byte (header .air)
+    ∷ written-air
     ∷ body-byte (header .body)
     ∷ natAbs (header .year)
     ∷ natAbs (header .month)
@@ -113,6 +103,10 @@ strip-size count = header-size + azimuth-size * count
 -- the ten numbers that stand in front
 unfoldable pub fields : List ℕ → List ℕ
 fields octets = parted header-widths octets
+
+-- the air byte among them
+abbrev pub air-byte : List ℕ → ℕ
+air-byte octets = getD (fields octets) 2 0
 
 -- the azimuth octets, which stand behind the header
 abbrev pub azimuth-part : List ℕ → List ℕ

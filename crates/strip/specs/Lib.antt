@@ -1,3 +1,4 @@
+pub mod Air
 pub mod Format
 pub mod Checks
 pub mod Cases

@@ -1,4 +1,4 @@
-// The checks that reader and writer have in common: 22 to 25, and what an azimuth of a strip is.
+// The checks that reader and writer have in common: 23 to 25, and what an azimuth of a strip is.
 use super::header::Header;
 use calendar::day_count::DayCount;
 use calendar::day_count::day_count;
@@ -11,9 +11,8 @@ use day::curve::MINUTES;
 use numbers::whole::is_between;
 use sky_vectors::station::LATITUDE_LIMIT;
 use sky_vectors::station::LONGITUDE_LIMIT;
-ghost use mathlib.Core.Bool.{_&&_, true};
+ghost use mathlib.Core.Bool.{true};
 ghost use mathlib.Core.Path.{_≡_};
-ghost use lib.Dec.{leb};
 ghost use Rattle.calendar.specs.Refusal.{first, verdict-number};
 ghost use Rattle.strip.specs.Checks.{header-refusals, is-azimuth, is-date, is-point, is-step, steps};
 
@@ -66,28 +65,14 @@ pub fn steps_of(step: i64) -> usize
     MINUTES / step as usize
 }
 
-// The octets that air and body have: 0 or 1.
-fn are_codes(air: u32, body: u32) -> bool
-    ensures { λ r. ⌜ r ≡ leb air 1 && leb body 1 ⌝ }
+// The first of 23 to 25 that applies.
+pub fn header_verdict(header: Header) -> Verdict
+    ensures { λ r. ⌜ verdict-number r ≡ first (header-refusals header) ⌝ }
 {
-    if 1 < air {
-        return false;
-    }
-    body <= 1
-}
-
-// The first of 22 to 25 that applies, by the octets of air and body.
-pub fn header_verdict(air: u32, body: u32, header: Header) -> Verdict
-    ensures { λ r. ⌜ verdict-number r ≡ first (header-refusals air body header) ⌝ }
-{
-    let by_code = unless(
-        Refusal::Strip(StripRefusal::AirOrBody),
-        are_codes(air, body),
-    );
     let by_date = unless(Refusal::Strip(StripRefusal::Date), is_date(header));
     let by_point = unless(Refusal::Strip(StripRefusal::Point), is_point(header));
     let by_step = unless(Refusal::Strip(StripRefusal::Step), is_step(header.step));
-    or_else(by_code, or_else(by_date, or_else(by_point, by_step)))
+    or_else(by_date, or_else(by_point, by_step))
 }
 
 // Below a full turn, or absent.

@@ -1,6 +1,8 @@
 // What a strip says beside its azimuths, and the ten numbers that say it.
+use super::air::StripAir;
+use super::air::WRITTEN_AIR;
+use super::air::air_in;
 use octets::fields::read_fields;
-use refraction::air::Air;
 use sky_vectors::geocentric::Body;
 ghost use mathlib.Core.Path.{_≡_};
 ghost use Prim.Native.Nat.{_≤_};
@@ -10,11 +12,11 @@ ghost use Rattle.octets.specs.Octets.{complement, from-complement};
 ghost use Rattle.calendar.specs.Refusal.{first};
 ghost use Rattle.day.specs.Curve.{minutes};
 ghost use Rattle.strip.specs.Checks.{header-refusals};
-ghost use Rattle.strip.specs.Format.{air-byte, air-in, body-byte, body-in, field-count, fields, header-in, header-numbers, header-size};
+ghost use Rattle.strip.specs.Format.{body-byte, body-in, field-count, fields, header-in, header-numbers, header-size};
 
 // Longitude and latitude in 10⁻⁷ degree, east and north positive; the step in minutes.
 pub struct Header {
-    pub air: Air,
+    pub air: StripAir,
     pub body: Body,
     pub year: i64,
     pub month: i64,
@@ -40,24 +42,7 @@ pub const LENGTH: usize = 2;
 
 pub const VERSION: u32 = 1;
 
-// An octet of air that no strip has stands for measured air.
-pub fn air_byte(air: Air) -> u32
-    ensures { λ r. ⌜ r ≡ air-byte air ⌝ }
-{
-    match air {
-        Air::None => 0,
-        Air::Standard => 1,
-        Air::Measured(_, _) => 2,
-    }
-}
-
-fn air_in(byte: u32) -> Air
-    ensures { λ r. ⌜ r ≡ air-in byte ⌝ }
-{
-    if byte == 0 { Air::None } else { Air::Standard }
-}
-
-pub fn body_byte(body: Body) -> u32
+fn body_byte(body: Body) -> u32
     ensures { λ r. ⌜ r ≡ body-byte body ⌝ }
 {
     match body {
@@ -126,15 +111,14 @@ pub fn header_in(numbers: &[u32]) -> Header
 
 // The ten numbers that say it, with so many azimuths behind them.
 pub fn numbers_of(header: Header, count: usize) -> [u32; FIELDS]
-    requires { ⌜ (first (header-refusals (air-byte (header .air)) (body-byte (header .body)) header) ≡ 0) × (count ≤ minutes) ⌝ }
+    requires { ⌜ (first (header-refusals header) ≡ 0) × (count ≤ minutes) ⌝ }
     ensures { λ r. ⌜ r ≡ header-numbers header count ⌝ }
 {
-    let air = header.air;
     let body = header.body;
     [
         (HEADER - LENGTH + AZIMUTH * count) as u32,
         VERSION,
-        air_byte(air),
+        WRITTEN_AIR,
         body_byte(body),
         header.year as u32,
         header.month as u32,

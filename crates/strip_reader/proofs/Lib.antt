@@ -1,2 +1,3 @@
 pub mod ReadLaws
 pub mod LookupLaws
+pub mod CarriedOverLaws

@@ -9,12 +9,12 @@ use lib.ListN.{length}
 use borrow.Author.Tests.{eqb-true, le-leb, leb-true}
 use Rattle.calendar.specs.Refusal.{OneAnswer, first, number}
 use Rattle.calendar.specs.declared.refusal.Refusal.{Refusal}
-use Rattle.sky.proofs.AnswerLaws.{from-answer, judged-refusal, not-refused, one-from, refused-back}
+use Rattle.sky.proofs.AnswerLaws.{from-answer, judged-refusal, judged-value, not-refused, one-from, refused-back}
 use Rattle.sky.specs.Answer.{Answer}
-use Rattle.strip.specs.Format.{fields, header-follows, header-in, header-size, length-size}
+use Rattle.strip.specs.Format.{Strip, fields, header-follows, header-in, header-size, length-size, strip-in}
 use Rattle.strip.specs.declared.header.Header.{Header}
 use Rattle.text.proofs.LineLaws.{first-of, second-of}
-use Rattle.strip_reader.specs.Reading.{length-agrees, no-header, read, read-answer, read-refusals, stated}
+use Rattle.strip_reader.specs.Reading.{decode, length-agrees, no-header, no-strip, read, read-answer, read-refusals, stated}
 use Rattle.strip_reader.specs.declared.reader.Reading.{Reading}
 use Rattle.strip_reader.specs.declared.reader.Reading.the-variants.{Read, Refused}
 
@@ -75,6 +75,16 @@ module _ (octets : List ℕ) where
   pub read-refused : (refusal : Refusal) → read-answer (Refused refusal) ≡ read octets → first (read-refusals octets) ≡ number refusal
   unfolding read
   read-refused refusal e = sym (ap (λ (a : Answer Header). a .refusal) e ∙ judged-refusal (first (read-refusals octets)) no-header (header-in (fields octets)))
+
+-- what octets say, where they are a strip
+module _ (octets : List ℕ) where
+  pub decoded-refusal : decode octets .refusal ≡ first (read-refusals octets)
+  unfolding decode
+  decoded-refusal = judged-refusal (first (read-refusals octets)) no-strip (strip-in octets)
+
+  pub decoded-value : decode octets .refusal ≡ 0 → decode octets .value ≡ strip-in octets
+  unfolding decode
+  decoded-value e = ap (λ (a : Answer Strip). a .value) (judged-value (first (read-refusals octets)) no-strip (strip-in octets) (sym decoded-refusal ∙ e))
 
 -- ---- one answer
 read-back : (x : Reading) → from-answer Read Refused (read-answer x) ≡ x

@@ -6,11 +6,11 @@ use lib.Dec.{eqb, leb, ltb}
 use lib.IntN.{pos, ℤ}
 use lib.ListN.{getD, length}
 use Rattle.calendar.specs.Refusal.{_unless_, first, number}
-use Rattle.refraction.specs.declared.air.Air.the-variants.{None}
 use Rattle.sky.specs.Answer.{Answer, judged}
 use Rattle.sky_vectors.specs.declared.geocentric.Body.the-variants.{Sun}
 use Rattle.strip.specs.Checks.{absent, are-azimuths, full-turn, header-refusals, steps}
 use Rattle.strip.specs.Format.{Strip, azimuth-part, azimuth-size, azimuths-in, fields, header-follows, header-in, length-size, strip-in, strip-of, version}
+use Rattle.strip.specs.declared.air.StripAir.the-variants.{None}
 use Rattle.strip.specs.declared.header.Header.{Header}
 use Rattle.strip_reader.specs.declared.reader.Reading.{Reading}
 use Rattle.strip_reader.specs.declared.reader.Reading.the-variants.{Read, Refused}
@@ -32,14 +32,19 @@ step-refusals octets length step =
     ∷ 26 unless are-azimuths (azimuths-in (azimuth-part octets))
     ∷ []
 
--- 20, 21 version, 22 to 25, then 20 and 26
+-- 22: air or body byte, each 0 or 1
+abbrev pub are-codes : ℕ → ℕ → Bool
+are-codes air body = leb air 1 && leb body 1
+
+-- 20, 21 version, 22, 23 to 25, then 20 and 26
 abbrev pub read-refusals : List ℕ → List ℕ
 read-refusals octets =
     let numbers = fields octets in
     let header = header-in numbers in
     20 unless length-agrees octets
     ∷ 21 unless eqb (getD numbers 1 0) version
-    ∷ (header-refusals (getD numbers 2 0) (getD numbers 3 0) header ++ step-refusals octets (stated octets) (header .step))
+    ∷ 22 unless are-codes (getD numbers 2 0) (getD numbers 3 0)
+    ∷ (header-refusals header ++ step-refusals octets (stated octets) (header .step))
 
 -- ---- the answer
 

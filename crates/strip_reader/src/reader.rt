@@ -24,7 +24,7 @@ ghost use lib.ListN.{length};
 ghost use Rattle.calendar.specs.Refusal.{OneAnswer, first, verdict-number};
 ghost use Rattle.strip.specs.Checks.{are-azimuths, is-step};
 ghost use Rattle.strip.specs.Format.{azimuths-in, field-count, fields, header-in, header-size};
-ghost use Rattle.strip_reader.specs.Reading.{azimuth-at, read, read-answer, read-refusals, step-refusals};
+ghost use Rattle.strip_reader.specs.Reading.{are-codes, azimuth-at, read, read-answer, read-refusals, step-refusals};
 
 pub enum Reading {
     Read(Header),
@@ -51,6 +51,16 @@ fn are_azimuths(part: &[u8]) -> bool
         step += 1;
     }
     true
+}
+
+// The octets that air and body have: 0 or 1.
+fn are_codes(air: u32, body: u32) -> bool
+    ensures { λ r. ⌜ r ≡ are-codes air body ⌝ }
+{
+    if 1 < air {
+        return false;
+    }
+    body <= 1
 }
 
 // 20 against the step, then 26; the step has passed.
@@ -81,8 +91,12 @@ fn read_verdict(strip: &[u8], numbers: &[u32], header: Header) -> Verdict
         stated == strip.len() - LENGTH,
     );
     let by_version = unless(Refusal::Strip(StripRefusal::Version), numbers[1] == VERSION);
-    let by_header = header_verdict(numbers[2], numbers[3], header);
-    match or_else(by_length, or_else(by_version, by_header)) {
+    let by_code = unless(
+        Refusal::Strip(StripRefusal::AirOrBody),
+        are_codes(numbers[2], numbers[3]),
+    );
+    let by_header = header_verdict(header);
+    match or_else(by_length, or_else(by_version, or_else(by_code, by_header))) {
         Verdict::Passed => step_verdict(strip, stated, header.step),
         Verdict::Refused(refusal) => Verdict::Refused(refusal),
     }

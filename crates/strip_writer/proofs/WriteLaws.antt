@@ -1,7 +1,7 @@
 -- The writer: what its checks say where they pass, how many octets a strip has, and what is left in the buffer.
 use mathlib.Core.Bool.{true}
 use mathlib.Core.List.{List, [], _++_, _∷_}
-use mathlib.Core.Path.{_∙_, _≡_, ap, ap₂, refl, sym}
+use mathlib.Core.Path.{_∙_, _≡_, ap₂, refl, sym}
 use Prim.Native.Nat.{_*_, _+_, _≤_, ℕ}
 use native.Mathlib.Nat.{zero-add}
 use native.Mathlib.Omega.{arith}
@@ -18,8 +18,9 @@ use Rattle.octets.specs.Put.{Put}
 use Rattle.sky.proofs.AnswerLaws.{from-answer, judged-refusal, one-from, refused-back}
 use Rattle.sky.specs.Answer.{Answer}
 use Rattle.strip.proofs.CheckLaws.{steps-most}
+use Rattle.strip.specs.Air.{is-none}
 use Rattle.strip.specs.Checks.{are-azimuths, header-refusals, steps}
-use Rattle.strip.specs.Format.{HeaderSize, Strip, air-byte, azimuth-size, body-byte, encode, header-numbers, header-size, header-widths, strip-size}
+use Rattle.strip.specs.Format.{HeaderSize, Strip, azimuth-size, encode, header-numbers, header-size, header-widths, strip-size}
 use Rattle.strip_writer.specs.RoundTrip.{SizeAgain}
 use Rattle.strip_writer.specs.Writing.{left-in, strip-refusals, write, write-answer, write-refusals}
 use Rattle.strip_writer.specs.declared.writer.Writing.{Writing}
@@ -36,7 +37,7 @@ one-writing = one-from Written Refused write-back
 -- ---- checks that pass
 module _ (strip : Strip) (e : first (strip-refusals strip) ≡ 0) where
   abbrev by-header : List ℕ
-  by-header = header-refusals (air-byte (strip .header .air)) (body-byte (strip .header .body)) (strip .header)
+  by-header = header-refusals (strip .header)
 
   abbrev by-count : ℕ
   by-count = 20 unless eqb (length (strip .azimuths)) (steps (strip .header .step))
@@ -44,11 +45,17 @@ module _ (strip : Strip) (e : first (strip-refusals strip) ≡ 0) where
   abbrev by-azimuth : ℕ
   by-azimuth = 26 unless are-azimuths (strip .azimuths)
 
-  abbrev after-header : (first by-header ≡ 0) × (first (by-count ∷ by-azimuth ∷ []) ≡ 0)
-  after-header = none-append by-header (by-count ∷ by-azimuth ∷ []) e
+  abbrev by-air : ℕ
+  by-air = 32 unless is-none (strip .header .air)
 
-  abbrev after-count : (by-count ≡ 0) × (first (by-azimuth ∷ []) ≡ 0)
-  after-count = none by-count (by-azimuth ∷ []) (after-header .1)
+  abbrev after-header : (first by-header ≡ 0) × (first (by-count ∷ by-azimuth ∷ by-air ∷ []) ≡ 0)
+  after-header = none-append by-header (by-count ∷ by-azimuth ∷ by-air ∷ []) e
+
+  abbrev after-count : (by-count ≡ 0) × (first (by-azimuth ∷ by-air ∷ []) ≡ 0)
+  after-count = none by-count (by-azimuth ∷ by-air ∷ []) (after-header .1)
+
+  abbrev after-azimuth : (by-azimuth ≡ 0) × (first (by-air ∷ []) ≡ 0)
+  after-azimuth = none by-azimuth (by-air ∷ []) (after-count .1)
 
   pub header-none : first by-header ≡ 0
   header-none = after-header .0
@@ -57,7 +64,10 @@ module _ (strip : Strip) (e : first (strip-refusals strip) ≡ 0) where
   count-is = eqb-true (length (strip .azimuths)) (steps (strip .header .step)) (passes 19 (eqb (length (strip .azimuths)) (steps (strip .header .step))) (after-count .0))
 
   pub azimuths-good : are-azimuths (strip .azimuths) ≡ true
-  azimuths-good = passes 25 (are-azimuths (strip .azimuths)) (none by-azimuth [] (after-count .1) .0)
+  azimuths-good = passes 25 (are-azimuths (strip .azimuths)) (after-azimuth .0)
+
+  pub air-none : is-none (strip .header .air) ≡ true
+  air-none = passes 31 (is-none (strip .header .air)) (none by-air [] (after-azimuth .1) .0)
 
   pub few : length (strip .azimuths) ≤ minutes
   few = omega (arith, count-is, steps-most (strip .header .step))

@@ -1,4 +1,4 @@
--- THE CLAIMS (02, Item 6): reading what was written gives the same strip, and writing what was read gives the same bytes.
+-- THE CLAIMS (02, Item 6, as Item 9 mends it): reading what was written gives the same strip; writing what was read gives the same bytes, for strips without air byte 1.
 use mathlib.Core.Bool.{true}
 use mathlib.Core.List.{List}
 use mathlib.Core.Path.{_≡_}
@@ -6,20 +6,29 @@ use Prim.Native.Nat.{_<_, ℕ}
 use lib.ListN.{getD, length}
 use Rattle.calendar.specs.Refusal.{first}
 use Rattle.octets.specs.Octets.{is-octet}
-use Rattle.strip.specs.Format.{Strip, azimuth-part, encode, strip-size}
+use Rattle.strip.specs.Format.{Strip, air-byte, azimuth-part, encode, strip-size}
 use Rattle.strip_reader.specs.Reading.{azimuth-at, azimuth-of, decode, read}
 use Rattle.text.specs.Line.{all}
-use Rattle.strip_writer.specs.Writing.{strip-refusals}
+use Rattle.strip_writer.specs.Writing.{strip-refusals, write}
 
 -- a strip that the writer's checks pass is read as the same strip
 abbrev pub StripAgain : Type 0
 StripAgain = (strip : Strip) → first (strip-refusals strip) ≡ 0 → decode (encode strip) ≡ record { refusal = 0; value = strip }
 
--- octets that the reader's checks pass are a strip that the writer's pass, and are written again
+-- octets that the reader's checks pass, without air byte 1, are a strip that the writer's pass, and are written again
 abbrev pub OctetsAgain : Type 0
 OctetsAgain =
-    (octets : List ℕ) → all is-octet octets ≡ true → decode octets .refusal ≡ 0
+    (octets : List ℕ) → all is-octet octets ≡ true → decode octets .refusal ≡ 0 → (air-byte octets ≡ 1 → ⊥)
     → (first (strip-refusals (decode octets .value)) ≡ 0) × (encode (decode octets .value) ≡ octets)
+
+-- with air byte 1 they are a strip that the writer refuses by 32, whatever room there is
+abbrev pub CarriedOverRefused : Type 0
+CarriedOverRefused =
+    (octets : List ℕ) (room : ℕ) → decode octets .refusal ≡ 0 → air-byte octets ≡ 1 → write (decode octets .value) room ≡ record { refusal = 32; value = 0 }
+
+-- the writer never writes 1
+abbrev pub NeverOne : Type 0
+NeverOne = (strip : Strip) → air-byte (encode strip) ≡ 0
 
 -- what the reader answers is the header of what the octets say, with the same refusal
 abbrev pub HeaderRead : Type 0

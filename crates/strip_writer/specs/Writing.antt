@@ -1,4 +1,4 @@
--- What the writer answers, and leaves in its buffer (02, Item 6: "The writer checks what it is handed likewise").
+-- What the writer answers, and leaves in its buffer (02, Item 6: "The writer checks what it is handed likewise", as Item 9 mends it).
 use mathlib.Core.Bool.{cond}
 use mathlib.Core.List.{List, [], _++_, _∷_}
 use Prim.Native.Nat.{ℕ}
@@ -6,18 +6,22 @@ use lib.Dec.{eqb, leb}
 use lib.ListN.{drop, length}
 use Rattle.calendar.specs.Refusal.{_unless_, first, number}
 use Rattle.sky.specs.Answer.{Answer, judged}
+use Rattle.strip.specs.Air.{is-none}
 use Rattle.strip.specs.Checks.{are-azimuths, header-refusals, steps}
-use Rattle.strip.specs.Format.{Strip, air-byte, body-byte, encode, strip-size}
+use Rattle.strip.specs.Format.{Strip, encode, strip-size}
 use Rattle.strip_writer.specs.declared.writer.Writing.{Writing}
 use Rattle.strip_writer.specs.declared.writer.Writing.the-variants.{Refused, Written}
 
--- 22 to 25 (22: measured air), 20 wrong number of azimuths, 26
+-- 23 to 25, 20 wrong number of azimuths, 26, 32 carried-over or any measured air
 abbrev pub strip-refusals : Strip → List ℕ
 strip-refusals strip =
-    header-refusals (air-byte (strip .header .air)) (body-byte (strip .header .body)) (strip .header)
-    ++ (20 unless eqb (length (strip .azimuths)) (steps (strip .header .step)) ∷ 26 unless are-azimuths (strip .azimuths) ∷ [])
+    header-refusals (strip .header)
+    ++ (20 unless eqb (length (strip .azimuths)) (steps (strip .header .step))
+    ∷ 26 unless are-azimuths (strip .azimuths)
+    ∷ 32 unless is-none (strip .header .air)
+    ∷ [])
 
--- then 28 for a small buffer
+-- just before 28 for a small buffer
 abbrev pub write-refusals : Strip → ℕ → List ℕ
 write-refusals strip room = strip-refusals strip ++ (28 unless leb (strip-size (length (strip .azimuths))) room ∷ [])
 

@@ -6,6 +6,7 @@ use calendar::refusal::or_else;
 use calendar::refusal::unless;
 use octets::fields::put_alike;
 use octets::fields::put_fields;
+use strip::air::is_none;
 use strip::checks::header_verdict;
 use strip::checks::is_azimuth;
 use strip::checks::steps_of;
@@ -13,8 +14,6 @@ use strip::header::AZIMUTH;
 use strip::header::HEADER;
 use strip::header::Header;
 use strip::header::WIDTHS;
-use strip::header::air_byte;
-use strip::header::body_byte;
 use strip::header::numbers_of;
 ghost use mathlib.Core.Path.{_≡_};
 ghost use lib.Dec.{leb};
@@ -58,8 +57,7 @@ fn write_verdict(header: Header, azimuths: &[u32], room: usize) -> Verdict
     ensures { λ r. ⌜ verdict-number r ≡ first (write-refusals (strip-of header (now (azimuths .entry))) room) ⌝ }
 {
     let air = header.air;
-    let body = header.body;
-    match header_verdict(air_byte(air), body_byte(body), header) {
+    match header_verdict(header) {
         Verdict::Passed => {
             let by_count = unless(
                 Refusal::Strip(StripRefusal::Length),
@@ -69,11 +67,12 @@ fn write_verdict(header: Header, azimuths: &[u32], room: usize) -> Verdict
                 Refusal::Strip(StripRefusal::Azimuth),
                 are_azimuths(azimuths),
             );
+            let by_air = unless(Refusal::Strip(StripRefusal::MeasuredAir), is_none(air));
             let by_room = unless(
                 Refusal::Strip(StripRefusal::Buffer),
                 has_room(azimuths.len(), room),
             );
-            or_else(by_count, or_else(by_azimuth, by_room))
+            or_else(by_count, or_else(by_azimuth, or_else(by_air, by_room)))
         }
         Verdict::Refused(refusal) => Verdict::Refused(refusal),
     }

@@ -1,13 +1,16 @@
 -- `boundary::codes::kind_refusal` meets its contract.
-use borrow.Author.Tests.{le-leb, lt-leb}
+use borrow.Author.Tests.{eq-eqb, ne-eqb}
 use Rattle.boundary.proofs.codes.kind_refusal.Statement.{statement}
 use Rattle.boundary.proofs.codes.kind_refusal.Tie as tie
 
 returns : tie.Need-returns
-returns c = simp (le-leb _ _ (c .if1 .taken))
+returns c = simp (eq-eqb _ _ (c .if1 .taken))
 
 returns-2 : tie.Need-returns-2
-returns-2 c = simp (lt-leb _ _ (c .if1 .left))
+returns-2 c = simp (ne-eqb _ _ (c .before .if1 .left), eq-eqb _ _ (c .if2 .taken))
+
+returns-3 : tie.Need-returns-3
+returns-3 c = simp (ne-eqb _ _ (c .before .if1 .left), ne-eqb _ _ (c .if2 .left))
 
 pub kind-refusal-spec : {M : Type 1} → statement M
-kind-refusal-spec = tie.close (tie.spec returns returns-2)
+kind-refusal-spec = tie.close (tie.spec returns returns-2 returns-3)

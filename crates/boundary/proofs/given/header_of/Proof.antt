@@ -1,15 +1,12 @@
 -- `boundary::given::header_of` meets its contract.
 use mathlib.Core.List.{List}
 use mathlib.Core.Path.{_∙_, _≡_, ap}
-use Prim.Native.Nat.{ℕ}
-use lib.IntN.{pos, ℤ}
-use lib.Ieee.{ofBits, ofInt}
+use lib.IntN.{ℤ}
 use borrow.Author.Needs.{needs}
 use mir.Syntax.{w64}
 use mir.Val.{ofZ, toZ}
-use Rattle.refraction.specs.Double.{double}
 use Rattle.sum_rules.specs.Table.{column}
-use Rattle.boundary.specs.Codes.{air-of, body-of, code-in}
+use Rattle.boundary.specs.Codes.{body-of, code-in, strip-air-of}
 use Rattle.boundary.specs.Given.{header-from}
 use Rattle.boundary.proofs.given.header_of.Statement.{statement}
 use Rattle.boundary.proofs.given.header_of.Tie as tie
@@ -49,8 +46,8 @@ element-copy-out-code-in c = search needs
 code-in-requires : tie.Need-code-in-requires
 code-in-requires c κs = search needs
 
-air-of-requires : tie.Need-air-of-requires
-air-of-requires c κs = search needs
+strip-air-of-requires : tie.Need-strip-air-of-requires
+strip-air-of-requires c κs = search needs
 
 element-copy-out-code-in-2 : tie.Need-element-copy-out-code-in-2
 element-copy-out-code-in-2 c = search needs
@@ -80,12 +77,12 @@ element-copy-out-t29 : tie.Need-element-copy-out-t29
 element-copy-out-t29 c = search needs
 
 returns : tie.Need-returns
-unfolding header-from ofBits ofInt
+unfolding header-from
 returns c =
     let body = c .before .before .before .before .before .before in
     let air = body .before .before .before in
     λ i. record {
-      air = (air .air-of .ensures ∙ ap (λ (kind : ℕ). air-of kind (double (pos 0)) (double (pos 0))) (air .before .code-in .ensures ∙ ap code-in (air-same c))) i;
+      air = (air .strip-air-of .ensures ∙ ap strip-air-of (air .before .code-in .ensures ∙ ap code-in (air-same c))) i;
       body = (body .body-of .ensures ∙ ap body-of (body .before .code-in2 .ensures ∙ ap code-in (body-same c))) i;
       year = year-same c i;
       month = month-same c i;
@@ -101,7 +98,7 @@ header-of-spec =
     (tie.spec
     element-copy-out-code-in
     code-in-requires
-    air-of-requires
+    strip-air-of-requires
     element-copy-out-code-in-2
     code-in-requires-2
     body-of-requires

@@ -6,14 +6,15 @@ use borrow.Author.Needs.{needs}
 use mir.Syntax.{w64}
 use mir.Val.{ofZ, toZ}
 use Rattle.sum_rules.specs.Table.{column}
-use Rattle.boundary.specs.Codes.{code-in, code-refusal}
+use Rattle.calendar.specs.Refusal.{_else_}
+use Rattle.boundary.specs.Codes.{body-refusal, code-in, strip-kind-refusal}
 use Rattle.boundary.proofs.given.header_refusal.Statement.{statement}
 use Rattle.boundary.proofs.given.header_refusal.Tie as tie
 
 -- the numbers as they are handed on
-module _ (c : tie.After-code-refusal) where
+module _ (c : tie.After-or-next) where
   abbrev numbers : List ℤ
-  numbers = c .before .before .before .before .before .args .numbers .now
+  numbers = c .before .before .before .before .before .before .before .args .numbers .now
 
   body-same : toZ w64 (ofZ w64 (column numbers 1)) ≡ column numbers 1
   body-same = search needs
@@ -27,20 +28,28 @@ element-copy-out-code-in c = search needs
 code-in-requires : tie.Need-code-in-requires
 code-in-requires c κs = search needs
 
+body-refusal-requires : tie.Need-body-refusal-requires
+body-refusal-requires c κs = search needs
+
 element-copy-out-code-in-2 : tie.Need-element-copy-out-code-in-2
 element-copy-out-code-in-2 c = search needs
 
 code-in-requires-2 : tie.Need-code-in-requires-2
 code-in-requires-2 c κs = search needs
 
-code-refusal-requires : tie.Need-code-refusal-requires
-code-refusal-requires c κs = search needs
+strip-kind-refusal-requires : tie.Need-strip-kind-refusal-requires
+strip-kind-refusal-requires c κs = search needs
+
+or-next-requires : tie.Need-or-next-requires
+or-next-requires c κs = search needs
 
 returns : tie.Need-returns
 returns c =
-    let air = c .before in
-    let body = air .before .before in
-    c .code-refusal .ensures ∙ (λ i. code-refusal ((body .code-in .ensures ∙ ap code-in (body-same c)) i) ((air .code-in2 .ensures ∙ ap code-in (air-same c)) i))
+    let by-air = c .before in
+    let by-body = by-air .before .before .before in
+    let air = by-air .strip-kind-refusal .ensures ∙ ap strip-kind-refusal (by-air .before .code-in2 .ensures ∙ ap code-in (air-same c)) in
+    let body = by-body .body-refusal .ensures ∙ ap body-refusal (by-body .before .code-in .ensures ∙ ap code-in (body-same c)) in
+    c .or-next .ensures ∙ (λ i. body i else air i)
 
 pub header-refusal-spec : {M : Type 1} → statement M
 header-refusal-spec =
@@ -48,7 +57,9 @@ header-refusal-spec =
     (tie.spec
     element-copy-out-code-in
     code-in-requires
+    body-refusal-requires
     element-copy-out-code-in-2
     code-in-requires-2
-    code-refusal-requires
+    strip-kind-refusal-requires
+    or-next-requires
     returns)

@@ -5,19 +5,19 @@ use lib.IntN.{pos}
 use borrow.Author.Needs.{needs}
 use mir.Syntax.{w64}
 use mir.Val.{ofZ, toZ}
-use Rattle.refraction.specs.declared.air.Air.{Air}
-use Rattle.refraction.specs.declared.air.Air.the-variants.{Measured, None, Standard}
 use Rattle.sky_vectors.specs.declared.geocentric.Body.{Body}
 use Rattle.sky_vectors.specs.declared.geocentric.Body.the-variants.{Moon, Sun}
-use Rattle.boundary.specs.Codes.{code-of, kind-of}
+use Rattle.strip.specs.declared.air.StripAir.{StripAir}
+use Rattle.strip.specs.declared.air.StripAir.the-variants.{CarriedOver, Measured, None}
+use Rattle.boundary.specs.Codes.{code-of, strip-kind-of}
 use Rattle.boundary.proofs.lent.put_header.Statement.{statement}
 use Rattle.boundary.proofs.lent.put_header.Tie as tie
 
 -- codes are small
-kind-small : (air : Air) → toZ w64 (kind-of air) ≡ pos (kind-of air)
+kind-small : (air : StripAir) → toZ w64 (strip-kind-of air) ≡ pos (strip-kind-of air)
 kind-small None = refl
-kind-small Standard = refl
 kind-small (Measured pressure temperature) = refl
+kind-small (CarriedOver pressure temperature) = refl
 
 code-small : (body : Body) → toZ w64 (code-of body) ≡ pos (code-of body)
 code-small Sun = refl
@@ -46,8 +46,8 @@ module _ (c : tie.After-lent) where
   step-same : toZ w64 (ofZ w64 (s .args .header .step)) ≡ s .args .header .step
   step-same = search needs
 
-kind-of-requires : tie.Need-kind-of-requires
-kind-of-requires c κs = search needs
+strip-kind-of-requires : tie.Need-strip-kind-of-requires
+strip-kind-of-requires c κs = search needs
 
 cast-t6 : tie.Need-cast-t6
 cast-t6 c = search needs
@@ -60,11 +60,11 @@ cast-t8 c = search needs
 
 returns : tie.Need-returns
 returns c =
-    let kind : toZ w64 (c .before .before .before .kind-of .result) ≡ pos (kind-of (s c .args .header .air)) =
-    ap (toZ w64) (c .before .before .before .kind-of .ensures) ∙ kind-small (s c .args .header .air) in
+    let kind : toZ w64 (c .before .before .before .strip-kind-of .result) ≡ pos (strip-kind-of (s c .args .header .air)) =
+    ap (toZ w64) (c .before .before .before .strip-kind-of .ensures) ∙ kind-small (s c .args .header .air) in
     let code : toZ w64 (c .before .before .code-of .result) ≡ pos (code-of (s c .args .header .body)) =
     ap (toZ w64) (c .before .before .code-of .ensures) ∙ code-small (s c .args .header .body) in
     λ i. kind i ∷ code i ∷ year-same c i ∷ month-same c i ∷ day-same c i ∷ longitude-same c i ∷ latitude-same c i ∷ step-same c i ∷ []
 
 pub put-header-spec : {M : Type 1} → statement M
-put-header-spec = tie.close (tie.spec kind-of-requires cast-t6 code-of-requires cast-t8 returns)
+put-header-spec = tie.close (tie.spec strip-kind-of-requires cast-t6 code-of-requires cast-t8 returns)

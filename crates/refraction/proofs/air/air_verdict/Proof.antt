@@ -22,9 +22,6 @@ temperature c = c .is-between2 .ensures
 enum-told : tie.Need-enum-told
 enum-told c = search needs
 
-enum-told-2 : tie.Need-enum-told-2
-enum-told-2 c = search needs
-
 enum-known-air : tie.Need-enum-known-air
 enum-known-air c = search needs
 
@@ -48,12 +45,8 @@ unfolding first air-refusals
 returns c = rw (c .enum-told .given .1) refl
 
 returns-2 : tie.Need-returns-2
-unfolding first air-refusals
-returns-2 c = rw (c .enum-told2 .given .1) refl
-
-returns-3 : tie.Need-returns-3
 unfolding air-refusals
-returns-3 c =
+returns-2 c =
     let by-temperature = c .before in
     let by-pressure = by-temperature .before .before in
     let known = by-pressure .before .before in
@@ -67,7 +60,6 @@ air-verdict-spec =
     tie.close
     (tie.spec
     enum-told
-    enum-told-2
     enum-known-air
     is-between-requires
     unless-requires
@@ -75,5 +67,4 @@ air-verdict-spec =
     unless-requires-2
     or-else-requires
     returns
-    returns-2
-    returns-3)
+    returns-2)

@@ -5,7 +5,6 @@ use lib.Ieee as Ieee
 use lib.Signed.{ltZ}
 use borrow.Author.Needs.{needs}
 use Rattle.numbers.proofs.Machine.{Mirror, arg, lit, not-less}
-use Rattle.refraction.specs.Air.{standard-pressure, standard-temperature}
 use Rattle.refraction.specs.Refraction.{IsRefracted, lowest-refracted, measured-refraction, refraction, refraction-in}
 use Rattle.refraction.proofs.formula.refraction.Statement.{statement}
 use Rattle.refraction.proofs.formula.refraction.Tie as tie
@@ -30,35 +29,22 @@ returns c = rw (rw (e (c .before) .same) at (c .if1 .taken))
 enum-told : tie.Need-enum-told
 enum-told c = search needs
 
-enum-told-2 : tie.Need-enum-told-2
-enum-told-2 c = search needs
-
-measured-refraction-requires : tie.Need-measured-refraction-requires
-measured-refraction-requires c κs = (c .before .before .before .pre .0, refracted (c .before .before))
-
 enum-known-air : tie.Need-enum-known-air
 enum-known-air c = search needs
 
-measured-refraction-requires-2 : tie.Need-measured-refraction-requires-2
-measured-refraction-requires-2 c κs = (c .before .before .before .before .pre .0, refracted (c .before .before .before))
+measured-refraction-requires : tie.Need-measured-refraction-requires
+measured-refraction-requires c κs = (c .before .before .before .before .pre .0, refracted (c .before .before .before))
 
 returns-2 : tie.Need-returns-2
 unfolding refraction refraction-in Ieee.ofBits Ieee.ofInt
 returns-2 c = rw (seen (c .before .before), c .enum-told .given .1)
 
 returns-3 : tie.Need-returns-3
-unfolding refraction refraction-in Ieee.ofBits Ieee.ofInt
-returns-3 c =
-    let k = c .before .before .before in
-    rw (seen k, c .before .enum-told2 .given .1)
-    (c .measured-refraction .ensures ∙ ap (measured-refraction standard-pressure standard-temperature) (e (k .before) .same))
-
-returns-4 : tie.Need-returns-4
 unfolding refraction refraction-in
-returns-4 c =
+returns-3 c =
     let k = c .before .before .before .before in
     rw (seen k, c .before .before .air .given .1)
-    (c .measured-refraction2 .ensures ∙ ap (measured-refraction _ _) (e (k .before) .same))
+    (c .measured-refraction .ensures ∙ ap (measured-refraction _ _) (e (k .before) .same))
 
 pub refraction-spec : {M : Type 1} → statement M
 refraction-spec =
@@ -66,10 +52,7 @@ refraction-spec =
     (tie.spec
     returns
     enum-told
-    enum-told-2
-    measured-refraction-requires
     enum-known-air
-    measured-refraction-requires-2
+    measured-refraction-requires
     returns-2
-    returns-3
-    returns-4)
+    returns-3)

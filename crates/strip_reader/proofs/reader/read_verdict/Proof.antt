@@ -16,7 +16,7 @@ use Rattle.strip.proofs.CheckLaws.{header-passes}
 use Rattle.strip.specs.Checks.{header-refusals, is-step}
 use Rattle.strip.specs.Format.{fields, header-in, length-size, version}
 use Rattle.strip.specs.declared.header.Header.{Header}
-use Rattle.strip_reader.specs.Reading.{length-agrees, stated, step-refusals}
+use Rattle.strip_reader.specs.Reading.{are-codes, length-agrees, stated, step-refusals}
 use Rattle.strip_reader.proofs.ReadLaws.{length-test}
 use Rattle.strip_reader.proofs.reader.read_verdict.Statement.{statement}
 use Rattle.strip_reader.proofs.reader.read_verdict.Tie as tie
@@ -24,22 +24,31 @@ use Rattle.strip_reader.proofs.reader.read_verdict.Tie as tie
 -- the checks up to the step's
 module _ (octets : List ℕ) where
   abbrev by-header : List ℕ
-  by-header = let numbers = fields octets in header-refusals (getD numbers 2 0) (getD numbers 3 0) (header-in numbers)
+  by-header = header-refusals (header-in (fields octets))
 
   abbrev front : List ℕ
-  front = 20 unless length-agrees octets ∷ 21 unless eqb (getD (fields octets) 1 0) version ∷ by-header
+  front =
+      let numbers = fields octets in
+      20 unless length-agrees octets ∷ 21 unless eqb (getD numbers 1 0) version ∷ 22 unless are-codes (getD numbers 2 0) (getD numbers 3 0) ∷ by-header
 
   front-step : first front ≡ 0 → is-step (header-in (fields octets) .step) ≡ true
   front-step e =
       let numbers = fields octets in
       let length-passes = none (20 unless length-agrees octets) (drop 1 front) e in
-      let version-passes = none (21 unless eqb (getD numbers 1 0) version) by-header (length-passes .1) in
-      header-passes (getD numbers 2 0) (getD numbers 3 0) (header-in numbers) (version-passes .1) .step-passes
+      let version-passes = none (21 unless eqb (getD numbers 1 0) version) (drop 2 front) (length-passes .1) in
+      let codes-pass = none (22 unless are-codes (getD numbers 2 0) (getD numbers 3 0)) by-header (version-passes .1) in
+      header-passes (header-in numbers) (codes-pass .1) .step-passes
 
 -- what the calls told of them
-module _ (k : tie.After-or-else2) where
+module _ (k : tie.After-or-else3) where
+  abbrev by-code : tie.After-unless3
+  by-code = k .before .before .before .before
+
+  abbrev by-length : tie.After-unless
+  by-length = by-code .before .before .before .before .before .before
+
   abbrev s : tie.Start
-  s = k .before .before .before .before .before .before .before .before .before .before .before
+  s = by-length .before .before .before .before
 
   abbrev octets : List ℕ
   octets = s .args .strip .now
@@ -53,15 +62,16 @@ module _ (k : tie.After-or-else2) where
   step-is : toZ w64 (ofZ w64 (s .args .header .step)) ≡ header-in (fields octets) .step
   step-is = toZ-ofZ w64 (s .args .header .step) (search needs) ∙ ap (λ (h : Header). h .step) header-is
 
-  front-is : verdict-number (k .or-else2 .result) ≡ first (front octets)
+  front-is : verdict-number (k .or-else3 .result) ≡ first (front octets)
   front-is =
-      let by-version = k .before .before .before .before .before in
-      let by-length = by-version .before .before in
-      joined (20 unless length-agrees octets ∷ []) (drop 1 (front octets)) (k .or-else2 .ensures)
+      let by-version = by-code .before .before .before .before in
+      joined (20 unless length-agrees octets ∷ []) (drop 1 (front octets)) (k .or-else3 .ensures)
       (check 20 (by-length .unless .ensures) (ap (λ (list : List ℕ). eqb (getD list 0 0) (length octets - length-size)) numbers-are ∙ length-test octets (s .pre .0 .0)))
-      (joined (21 unless eqb (getD (fields octets) 1 0) version ∷ []) (by-header octets) (k .before .or-else .ensures)
+      (joined (21 unless eqb (getD (fields octets) 1 0) version ∷ []) (drop 2 (front octets)) (k .before .or-else2 .ensures)
       (check 21 (by-version .unless2 .ensures) (ap (λ (list : List ℕ). eqb (getD list 1 0) version) numbers-are))
-      (k .before .before .header-verdict .ensures ∙ (λ i. first (header-refusals (getD (numbers-are i) 2 0) (getD (numbers-are i) 3 0) (header-is i)))))
+      (joined (22 unless are-codes (getD (fields octets) 2 0) (getD (fields octets) 3 0) ∷ []) (by-header octets) (k .before .before .or-else .ensures)
+      (check 22 (by-code .unless3 .ensures) (by-code .before .are-codes .ensures ∙ ap (λ (list : List ℕ). are-codes (getD list 2 0) (getD list 3 0)) numbers-are))
+      (k .before .before .before .header-verdict .ensures ∙ ap (λ (h : Header). first (header-refusals h)) header-is)))
 
 shared-slice-read-stated : tie.Need-shared-slice-read-stated
 shared-slice-read-stated c = search needs
@@ -81,11 +91,17 @@ shared-slice-read-unless c = search needs
 unless-requires-2 : tie.Need-unless-requires-2
 unless-requires-2 c κs = search needs
 
-shared-slice-read-header-verdict : tie.Need-shared-slice-read-header-verdict
-shared-slice-read-header-verdict c = search needs
+shared-slice-read-are-codes : tie.Need-shared-slice-read-are-codes
+shared-slice-read-are-codes c = search needs
 
-shared-slice-read-header-verdict-2 : tie.Need-shared-slice-read-header-verdict-2
-shared-slice-read-header-verdict-2 c = search needs
+shared-slice-read-are-codes-2 : tie.Need-shared-slice-read-are-codes-2
+shared-slice-read-are-codes-2 c = search needs
+
+are-codes-requires : tie.Need-are-codes-requires
+are-codes-requires c κs = search needs
+
+unless-requires-3 : tie.Need-unless-requires-3
+unless-requires-3 c κs = search needs
 
 header-verdict-requires : tie.Need-header-verdict-requires
 header-verdict-requires c κs = search needs
@@ -95,6 +111,9 @@ or-else-requires c κs = search needs
 
 or-else-requires-2 : tie.Need-or-else-requires-2
 or-else-requires-2 c κs = search needs
+
+or-else-requires-3 : tie.Need-or-else-requires-3
+or-else-requires-3 c κs = search needs
 
 enum-told : tie.Need-enum-told
 enum-told c = search needs
@@ -132,11 +151,14 @@ read-verdict-spec =
     unless-requires
     shared-slice-read-unless
     unless-requires-2
-    shared-slice-read-header-verdict
-    shared-slice-read-header-verdict-2
+    shared-slice-read-are-codes
+    shared-slice-read-are-codes-2
+    are-codes-requires
+    unless-requires-3
     header-verdict-requires
     or-else-requires
     or-else-requires-2
+    or-else-requires-3
     enum-told
     step-verdict-requires
     enum-known-refusal

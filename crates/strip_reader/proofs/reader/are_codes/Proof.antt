@@ -1,8 +1,8 @@
--- `checks::are_codes` meets its contract.
+-- `reader::are_codes` meets its contract.
 use mathlib.Core.Path.{refl}
 use borrow.Author.Tests.{le-leb, lt-leb}
-use Rattle.strip.proofs.checks.are_codes.Statement.{statement}
-use Rattle.strip.proofs.checks.are_codes.Tie as tie
+use Rattle.strip_reader.proofs.reader.are_codes.Statement.{statement}
+use Rattle.strip_reader.proofs.reader.are_codes.Tie as tie
 
 returns : tie.Need-returns
 returns c = rw (lt-leb (c .before .args .air) 1 (c .if1 .taken)) refl
