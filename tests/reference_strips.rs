@@ -7,22 +7,9 @@ use reference::{Body, Strip, StripAir};
 use crate::archive::{Answer, Header, HeaderRead, POISON};
 use crate::compared::{answer, answer_one, answer_or};
 
-// Measured air has a pressure and a temperature, which are not asked of a writer: any will do.
-fn strip_of(header: &Header) -> Result<Strip, u32> {
-    let [air, body, year, month, day, longitude, latitude, step] = *header;
-    let body = match body {
-        0 => Body::Sun,
-        1 => Body::Moon,
-        _ => return Err(101),
-    };
-    let air = match air {
-        0 => StripAir::None,
-        2 => StripAir::Measured(820.0, 11.0),
-        3 => StripAir::CarriedOver(1010.0, 10.0),
-        _ => return Err(102),
-    };
-    Ok(Strip { air, body, year, month, day, longitude, latitude, step })
-}
+#[path = "strip_codes.rs"]
+mod strip_codes;
+use strip_codes::strip_of;
 
 fn header_of(strip: Strip) -> HeaderRead {
     let (air, pressure, temperature) = match strip.air {
@@ -36,7 +23,7 @@ fn header_of(strip: Strip) -> HeaderRead {
 }
 
 pub fn strip_write(header: &Header, azimuths: &[u32], bytes: &mut [u8]) -> Answer<i64> {
-    let found = strip_of(header).and_then(|strip| reference::write_strip(&strip, azimuths, bytes).map_err(u32::from));
+    let found = strip_of(*header).and_then(|strip| reference::write_strip(&strip, azimuths, bytes).map_err(u32::from));
     answer_one(found.map(|count| count as i64))
 }
 

@@ -5,18 +5,18 @@ use raddlehue_reference::*;
 
 mod random;
 mod spoilt;
+#[path = "../../tests/strip_codes.rs"]
+mod strip_codes;
 #[path = "../../tests/strip_lines.rs"]
 mod strip_lines;
 use random::Random;
 use spoilt::spoilt_days;
+use strip_codes::{strip_of, CARRIED_OVER, MEASURED};
 use strip_lines::{strip_lines, StripLine};
 
 const BODIES: [Body; 2] = [Body::Sun, Body::Moon];
 const STEPS: [i64; 4] = [1, 2, 5, 10];
 const TURN: u32 = 3_600_000_000;
-
-const MEASURED: StripAir = StripAir::Measured(820.0, 11.0);
-const CARRIED_OVER: StripAir = StripAir::CarriedOver(1010.0, 10.0);
 
 const STRIP: Strip = Strip {
     air: StripAir::None,
@@ -37,22 +37,6 @@ fn written(strip: &Strip, azimuths: &[u32]) -> Vec<u8> {
 }
 
 // ---- the vectors
-
-/// A strip of a line's numbers, or C's own refusal of an unknown code: 101 for the body's, then 102 for the air's.
-fn strip_of([air, body, year, month, day, longitude, latitude, step]: [i64; 8]) -> Result<Strip, u32> {
-    let body = match body {
-        0 => Body::Sun,
-        1 => Body::Moon,
-        _ => return Err(101),
-    };
-    let air = match air {
-        0 => StripAir::None,
-        2 => MEASURED,
-        3 => CARRIED_OVER,
-        _ => return Err(102),
-    };
-    Ok(Strip { air, body, year, month, day, longitude, latitude, step })
-}
 
 fn check_line(line: StripLine) {
     match line {

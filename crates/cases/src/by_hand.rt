@@ -76,7 +76,7 @@ pub fn run_cases() {
     write(b"\n");
 }
 
-// To the last bit: neither is a NaN.
+// All three numbers.
 fn are_same(a: Shown, b: Shown) -> bool {
     a.azimuth == b.azimuth && a.elevation == b.elevation && a.refraction == b.refraction
 }
