@@ -4,7 +4,6 @@ use mathlib.Core.List.{List, [], _++_, _∷_}
 use mathlib.Core.Path.{_∙_, _≡_, ap₂, refl, sym}
 use Prim.Native.Nat.{_*_, _/_, suc, zero, ℕ}
 use native.Mathlib.Omega.{arith}
-use lib.Dec.{eqb}
 use lib.IntN.{natAbs, pos, ℤ}
 use lib.ListN.{drop, length}
 use borrow.Author.Tests.{eq-eqb, lt-ltb}
@@ -23,10 +22,9 @@ use Rattle.sky_vectors.proofs.PlaceLaws.{place-at-in-turns}
 use Rattle.sky_vectors.specs.SkyRange.{latitude-limit, longitude-limit}
 use Rattle.sky_vectors.specs.declared.geocentric.Body.{Body}
 use Rattle.sky_vectors.specs.declared.station.Point.{Point}
-use Rattle.strip.specs.Air.{is-none}
 use Rattle.strip.specs.Checks.{are-azimuths, full-turn, header-refusals, is-azimuth, is-date, is-point, steps}
 use Rattle.strip.specs.Format.{Strip}
-use Rattle.strip_writer.specs.Writing.{strip-refusals}
+use Rattle.strip_writer.specs.Writing.{own-refusals, strip-refusals}
 use Rattle.sum_rules.specs.Instant.{minus}
 use Rattle.text.proofs.WordLaws.{all-append}
 use Rattle.text.specs.Line.{all}
@@ -98,14 +96,11 @@ module _ (date : Date) (body : Body) (point : Point) (step : ℤ) (room : ℕ) (
   header-good : first (header-refusals (strip .header)) ≡ 0
   header-good = unfold first in simp (date-good, point-good, step-passes date point step room e)
 
-  abbrev others : List ℕ
-  others = 20 unless eqb (length (strip .azimuths)) (steps step) ∷ 26 unless are-azimuths (strip .azimuths) ∷ 32 unless is-none (strip .header .air) ∷ []
-
-  others-good : first others ≡ 0
-  others-good = unfold first in simp (eq-eqb (length (strip .azimuths)) (steps step) (worked-count date body point step), worked-good date body point step)
+  own-good : first (own-refusals strip) ≡ 0
+  own-good = unfold first in simp (eq-eqb (length (strip .azimuths)) (steps step) (worked-count date body point step), worked-good date body point step)
 
   writable : first (strip-refusals strip) ≡ 0
-  writable = passed-first (header-refusals (strip .header)) others header-good ∙ others-good
+  writable = passed-first (header-refusals (strip .header)) (own-refusals strip) header-good ∙ own-good
 
 pub every-day-writable : EveryDayWritable
 every-day-writable date body point step room e = writable date body point step room (sym (refusal-is date point step room) ∙ e)

@@ -33,7 +33,7 @@ use Rattle.strip_reader.specs.Reading.{are-codes, azimuth-at, azimuth-of, decod
 use Rattle.text.proofs.LineLaws.{first-of, second-of}
 use Rattle.text.specs.Line.{all}
 use Rattle.strip_writer.specs.RoundTrip.{CarriedOverRefused, EveryAzimuthRead, HeaderRead, NeverOne, OctetsAgain, StripAgain}
-use Rattle.strip_writer.specs.Writing.{strip-refusals, write}
+use Rattle.strip_writer.specs.Writing.{own-refusals, strip-refusals, write}
 use Rattle.strip_writer.proofs.WriteLaws.{air-none, azimuths-good, count-is, few, head, head-length, header-none, header-size-is, size-again, tail}
 
 -- ---- the octets of air and body
@@ -233,10 +233,8 @@ module _ (octets : List ℕ) (e : first (read-refusals octets) ≡ 0) where
   by-air-alone : first (strip-refusals said) ≡ 32 unless is-none (said .header .air)
   by-air-alone =
       let by-air = 32 unless is-none (said .header .air) in
-      let last : first (20 unless eqb read-count (steps (said .header .step)) ∷ 26 unless are-azimuths (said .azimuths) ∷ by-air ∷ []) ≡ first (by-air ∷ []) =
-      unfold first in simp (eq-eqb read-count (steps (said .header .step)) read-count-is, read-azimuths-good) in
-      passed-first by-header (20 unless eqb read-count (steps (said .header .step)) ∷ 26 unless are-azimuths (said .azimuths) ∷ by-air ∷ []) (after-header .0)
-      ∙ last ∙ first-one by-air
+      let last : first (own-refusals said) ≡ first (by-air ∷ []) = unfold first in simp (eq-eqb read-count (steps (said .header .step)) read-count-is, read-azimuths-good) in
+      passed-first by-header (own-refusals said) (after-header .0) ∙ last ∙ first-one by-air
 
   refused-by-air : air-byte octets ≡ 1 → first (strip-refusals said) ≡ 32
   unfolding header-in

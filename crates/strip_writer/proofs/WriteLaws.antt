@@ -22,7 +22,7 @@ use Rattle.strip.specs.Air.{is-none}
 use Rattle.strip.specs.Checks.{are-azimuths, header-refusals, steps}
 use Rattle.strip.specs.Format.{HeaderSize, Strip, azimuth-size, encode, header-numbers, header-size, header-widths, strip-size}
 use Rattle.strip_writer.specs.RoundTrip.{SizeAgain}
-use Rattle.strip_writer.specs.Writing.{left-in, strip-refusals, write, write-answer, write-refusals}
+use Rattle.strip_writer.specs.Writing.{left-in, own-refusals, strip-refusals, write, write-answer, write-refusals}
 use Rattle.strip_writer.specs.declared.writer.Writing.{Writing}
 use Rattle.strip_writer.specs.declared.writer.Writing.the-variants.{Refused, Written}
 
@@ -48,8 +48,8 @@ module _ (strip : Strip) (e : first (strip-refusals strip) ≡ 0) where
   abbrev by-air : ℕ
   by-air = 32 unless is-none (strip .header .air)
 
-  abbrev after-header : (first by-header ≡ 0) × (first (by-count ∷ by-azimuth ∷ by-air ∷ []) ≡ 0)
-  after-header = none-append by-header (by-count ∷ by-azimuth ∷ by-air ∷ []) e
+  abbrev after-header : (first by-header ≡ 0) × (first (own-refusals strip) ≡ 0)
+  after-header = none-append by-header (own-refusals strip) e
 
   abbrev after-count : (by-count ≡ 0) × (first (by-azimuth ∷ by-air ∷ []) ≡ 0)
   after-count = none by-count (by-azimuth ∷ by-air ∷ []) (after-header .1)

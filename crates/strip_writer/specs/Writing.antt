@@ -12,14 +12,17 @@ use Rattle.strip.specs.Format.{Strip, encode, strip-size}
 use Rattle.strip_writer.specs.declared.writer.Writing.{Writing}
 use Rattle.strip_writer.specs.declared.writer.Writing.the-variants.{Refused, Written}
 
--- 23 to 25, 20 wrong number of azimuths, 26, 32 carried-over or any measured air
-abbrev pub strip-refusals : Strip → List ℕ
-strip-refusals strip =
-    header-refusals (strip .header)
-    ++ (20 unless eqb (length (strip .azimuths)) (steps (strip .header .step))
+-- 20 wrong number of azimuths, 26, 32 carried-over or any measured air
+abbrev pub own-refusals : Strip → List ℕ
+own-refusals strip =
+    20 unless eqb (length (strip .azimuths)) (steps (strip .header .step))
     ∷ 26 unless are-azimuths (strip .azimuths)
     ∷ 32 unless is-none (strip .header .air)
-    ∷ [])
+    ∷ []
+
+-- 23 to 25, as the reader has them, then the writer's own
+abbrev pub strip-refusals : Strip → List ℕ
+strip-refusals strip = header-refusals (strip .header) ++ own-refusals strip
 
 -- just before 28 for a small buffer
 abbrev pub write-refusals : Strip → ℕ → List ℕ
