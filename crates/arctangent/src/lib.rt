@@ -1,4 +1,6 @@
 // The arctangent of a pair of numbers, equal to its rule.
+#![tactic(auto)]
+
 pub mod direction;
 mod limbs;
 mod wide_angle;

@@ -1,1 +1,2 @@
 // Mathematics of whole numbers only: nothing here runs.
+#![tactic(auto)]

@@ -1,2 +1,4 @@
 // Many samples from one start.
+#![tactic(auto)]
+
 pub mod samples;

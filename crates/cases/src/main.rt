@@ -1,5 +1,7 @@
 // 01's run cases and the reports' own examples. Each line names the values of one table, and marks those that do not come out: the
 // stored output has no mark.
+#![tactic(auto)]
+
 mod by_hand;
 mod eclipses;
 mod moon_example;

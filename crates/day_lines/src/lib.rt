@@ -1,4 +1,6 @@
 // One line of the program `days`: its answer, and the answer as it is printed.
+#![tactic(auto)]
+
 ghost use Rattle.std.specs.Prelude.{◌≡◌, ◌+◌, ◌≤◌, length, drop};
 ghost use Rattle.calendar.specs.Refusal.{OneAnswer};
 ghost use Rattle.day.specs.Date.{date_from};

@@ -1,1 +1,2 @@
 // Mathematics of exact fractions only: nothing here runs.
+#![tactic(auto)]

@@ -1,2 +1,4 @@
 // The middle of two azimuths.
+#![tactic(auto)]
+
 pub mod middle;

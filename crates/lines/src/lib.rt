@@ -1,6 +1,8 @@
 // The argument sheet, or `places`, over standard input and output. No contract can say what a call of `read` or `write` moves: `answers` has the contracts of what is
 // handed to be written. A read or a write that fails is told on standard error, and nothing is written after it, so that no line is ever missing between two others.
 // No signal is handled here, so none interrupts a call; a program of Rattle's cannot set its exit status.
+#![tactic(auto)]
+
 pub mod answers;
 pub mod line;
 

@@ -1,2 +1,4 @@
 // The Moon's periodic sums.
+#![tactic(auto)]
+
 pub mod moon;

@@ -1,4 +1,6 @@
 // Places of the Sun and the Moon, one request a line, on requests of every kind.
+#![tactic(auto)]
+
 use lines::line::Form;
 
 fn main() {

@@ -1,4 +1,6 @@
 // The argument sheet, on the case of the build description.
+#![tactic(auto)]
+
 use lines::line::Form;
 
 fn main() {

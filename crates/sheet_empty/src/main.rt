@@ -1,4 +1,6 @@
 // The argument sheet, on empty input.
+#![tactic(auto)]
+
 use lines::line::Form;
 
 fn main() {

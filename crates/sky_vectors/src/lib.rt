@@ -1,4 +1,6 @@
 // From the centre to the runner: vectors, parallax, the horizon, and the place at an instant.
+#![tactic(auto)]
+
 pub mod geocentric;
 pub mod horizon;
 pub mod observer;

@@ -1,2 +1,4 @@
 // The Sun's periodic sums.
+#![tactic(auto)]
+
 pub mod sun;

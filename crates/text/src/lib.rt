@@ -1,3 +1,5 @@
 // Decimal numbers in lines of ASCII bytes, read and written.
+#![tactic(auto)]
+
 pub mod decimal;
 pub mod line;

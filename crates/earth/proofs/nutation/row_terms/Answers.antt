@@ -1,0 +1,75 @@
+-- `earth::nutation::row_terms` meets its contract.
+use mathlib.Core.List.{List}
+use mathlib.Core.Path.{◌∙◌, ◌≡◌}
+use lib.IntN.{◌*ℤ◌, ℤ}
+use mir.Syntax.{w64}
+use mir.Val.{of_z, to_z}
+use borrow.Author.Rules.{rules}
+use Rattle.number_rules.specs.Sine.{cosine, sine}
+use Rattle.numbers.proofs.Machine.{Mirror, arg, asked, gave, passed}
+use Rattle.sum_rules.specs.Nutation.{row_angle, weight}
+use Rattle.sum_rules.specs.Table.{column}
+use Rattle.earth.specs.NutationRange.{SmallRow}
+use Rattle.sum_terms.proofs.NarrowMirror.{column_handed, column_most, column_same}
+use Rattle.earth.proofs.NutationLaws.{weight_small}
+use Rattle.earth.proofs.nutation.row_terms.Goals as goal
+use Rattle.earth.proofs.nutation.row_terms.Goals.{After-row_angle-angle, After-weight-first, After-weight-second, Start}
+
+module _ (s : Start) where
+  abbrev args : List ℤ
+  args = s.args.arguments
+
+  abbrev row : List ℤ
+  row = s.args.row
+
+  abbrev u_mirror : Mirror
+  u_mirror = arg s.ranges.u s.requires.1.1.0
+
+  abbrev small : SmallRow row
+  small = s.requires.1.1.1
+
+-- where the function began, from each call
+abbrev from_angle : After-row_angle-angle → Start
+from_angle c = c.before
+
+abbrev from_first : After-weight-first → Start
+from_first c = from_angle c.before.before.before
+
+abbrev from_second : After-weight-second → Start
+from_second c = from_first c.before.before.before
+
+angle_is : (c : After-row_angle-angle) → to_z w64 (of_z w64 c.row_angle-angle.result) ≡ row_angle (args (from_angle c)) (row (from_angle c))
+angle_is c = passed c.row_angle-angle.type_inv c.row_angle-angle.ensures
+
+abbrev first : After-weight-first → Mirror
+first c =
+    let s = from_first c in
+    gave c.weight-first.type_inv (c.weight-first.ensures ∙ (λ i. weight ((u_mirror s).same i) (column_same (small s) 5 tt tt i) (column_same (small s) 6 tt tt i)))
+    (weight_small s.args.u s.requires.1.1.0 (column (row s) 5) (column (row s) 6) (column_most (small s) 5 tt tt) (column_most (small s) 6 tt tt))
+
+abbrev second : After-weight-second → Mirror
+second c =
+    let s = from_second c in
+    gave c.weight-second.type_inv (c.weight-second.ensures ∙ (λ i. weight ((u_mirror s).same i) (column_same (small s) 7 tt tt i) (column_same (small s) 8 tt tt i)))
+    (weight_small s.args.u s.requires.1.1.0 (column (row s) 7) (column (row s) 8) (column_most (small s) 7 tt tt) (column_most (small s) 8 tt tt))
+
+pub weight-first-requires : goal.weight-first-requires
+weight-first-requires c =
+    let s = from_angle (goal.at.weight-first-requires c).After-row_angle-angle in
+    (asked (u_mirror s) tt, (column_handed (small s) 5 tt tt, column_handed (small s) 6 tt tt))
+
+pub weight-second-requires : goal.weight-second-requires
+weight-second-requires c =
+    let s = from_first (goal.at.weight-second-requires c).After-weight-first in
+    (asked (u_mirror s) tt, (column_handed (small s) 7 tt tt, column_handed (small s) 8 tt tt))
+
+pub weighted-requires : goal.weighted-requires
+weighted-requires c = ((from_second (goal.at.weighted-requires c).After-weight-second).requires.0, (asked (first (goal.at.weighted-requires c).After-weight-first) tt, asked (second (goal.at.weighted-requires c).After-weight-second) tt))
+
+pub returns : goal.returns
+returns c =
+    let w = (goal.at.returns c).After-weight-first in
+    let angle = angle_is w.before.before.before in (
+      c.weighted.ensures.0 ∙ (λ i. (first w).same i *ℤ sine (angle i)),
+      c.weighted.ensures.1 ∙ (λ i. (second (goal.at.returns c).After-weight-second).same i *ℤ cosine (angle i)),
+    )

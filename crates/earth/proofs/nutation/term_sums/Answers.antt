@@ -1,0 +1,73 @@
+-- `earth::nutation::term_sums` meets its contract. The invariant: the sums are those of the rows before i; u stands in it by its bits.
+use mathlib.Core.List.{List}
+use mathlib.Core.Path.{◌∙◌, ap, refl}
+use Prim.Native.Nat.{◌-◌, ◌<◌, ◌^◌, ◌≤◌, zero-le}
+use native.Mathlib.Omega.{arith}
+use lib.IntN.{nat_abs, ℤ}
+use lib.ListN.{length}
+use mir.Syntax.{w64}
+use mir.Val.{of_z, to_z}
+use borrow.Author.Rules.{rules}
+use Rattle.numbers.proofs.Machine.{any, handed}
+use Rattle.sum_rules.specs.Nutation.{cosine_term, sine_term}
+use Rattle.sum_rules.specs.Table.{total}
+use Rattle.earth.proofs.NutationLaws.{cosine_summing, sine_summing}
+use Rattle.sum_terms.proofs.SumLoop.{Next, Summed, all_added, next}
+use Rattle.earth.proofs.nutation.term_sums.Goals as goal
+use Rattle.earth.proofs.nutation.term_sums.Goals.{After-row_terms-row, At-loop-i, Start}
+
+module _ (s : Start) where
+  abbrev u : ℤ
+  u = to_z w64 (of_z w64 s.args.u)
+
+  u_small : nat_abs u ≤ 2 ^ 20
+  u_small = handed s.ranges.u s.requires.1.1.0
+
+-- a turn of the loop
+module _ (c : After-row_terms-row) where
+  abbrev turn : At-loop-i
+  turn = c.before.before.before
+
+  abbrev begun : Start
+  begun = turn.before
+
+  abbrev rows : List (List ℤ)
+  rows = begun.args.terms.now
+
+  abbrev inside : turn.loop-i.i < length rows
+  inside = c.loop-i-test.true
+
+  sine_next : Next (sine_term begun.args.arguments (u begun)) rows turn.loop-i.i turn.loop-i.sine c.row_terms-row.result.sine
+  sine_next =
+      next (sine_summing begun.args.arguments (u begun) (u_small begun) rows begun.requires.1.1.1) tt
+      turn.loop-i.i turn.loop-i.sine inside turn.loop-i.invariant.1.0 c.row_terms-row.ensures.0
+
+  cosine_next : Next (cosine_term begun.args.arguments (u begun)) rows turn.loop-i.i turn.loop-i.cosine c.row_terms-row.result.cosine
+  cosine_next =
+      next (cosine_summing begun.args.arguments (u begun) (u_small begun) rows begun.requires.1.1.1) tt
+      turn.loop-i.i turn.loop-i.cosine inside turn.loop-i.invariant.1.1 c.row_terms-row.ensures.1
+
+pub loop-i-init : goal.loop-i-init
+unfolding total
+loop-i-init c = (zero-le, (refl, refl))
+
+pub row_terms-row-requires : goal.row_terms-row-requires
+row_terms-row-requires c =
+    let s = (goal.at.row_terms-row-requires c).Start in
+    (s.requires.0, (s.requires.1.0, (u_small s, s.requires.1.1.1.each c.loop-i.i c.loop-i-test.true)))
+
+pub loop-i-preserved : goal.loop-i-preserved
+loop-i-preserved c =
+    let r = (goal.at.loop-i-preserved c).After-row_terms-row in
+    (omega (arith, inside r), ((sine_next r).is, (cosine_next r).is))
+
+pub returns : goal.returns
+returns c =
+    let s = (goal.at.returns c).Start in
+    let t = c.loop-i in
+    let same = (any s.ranges.u).same in (
+      all_added (sine_term s.args.arguments (u s)) s.args.terms.now t.i t.sine c.loop-i-test.false t.invariant.1.0
+          ∙ ap (λ (z : ℤ). total (sine_term s.args.arguments z) s.args.terms.now) same,
+      all_added (cosine_term s.args.arguments (u s)) s.args.terms.now t.i t.cosine c.loop-i-test.false t.invariant.1.1
+          ∙ ap (λ (z : ℤ). total (cosine_term s.args.arguments z) s.args.terms.now) same,
+    )

@@ -1,0 +1,90 @@
+-- `eclipse::disks::eclipse_of` meets its contract: each call's equation, put into the next; no number is near 2⁶³.
+use mathlib.Core.Path.{◌∙◌, ◌≡◌, ap, subst⁻¹}
+use Prim.Native.Nat.{◌≤◌, ℕ}
+use lib.IntN.{pos, ℤ}
+use borrow.Author.Rules.{rules}
+use Rattle.number_rules.specs.Angle.{half_turn}
+use Rattle.numbers.proofs.Machine.{from_nat, nat_fits, told}
+use Rattle.overlap.proofs.ShareHolds.{every_share_holds}
+use Rattle.overlap.specs.Overlap.{share, whole}
+use Rattle.overlap.specs.DiskRange.{Radii}
+use Rattle.sky_vectors.specs.Place.{place_towards}
+use Rattle.sky_vectors.specs.declared.place.Place.{Place}
+use Rattle.sky_vectors.proofs.PlaceLaws.{place_towards_in_turns}
+use Rattle.eclipse.specs.Eclipse.{eclipse_of}
+use Rattle.eclipse.specs.Radius.{moon_radius, sun_radius}
+use Rattle.eclipse.specs.Separation.{separation}
+use Rattle.eclipse.proofs.CrossLaws.{separation_most}
+use Rattle.eclipse.proofs.RadiusLaws.{radii}
+use Rattle.eclipse.proofs.disks.eclipse_of.Goals as goal
+use Rattle.eclipse.proofs.disks.eclipse_of.Goals.{After-moon_radius-rm, After-place_towards-elevation, After-separation-apart, After-share-covered, After-sun_radius-rs, Start}
+
+-- the separation, the two radii, and what they are within
+module _ (c : After-moon_radius-rm) where
+  abbrev placed : After-place_towards-elevation
+  placed = c.before.before
+
+  abbrev sized : After-sun_radius-rs
+  sized = placed.before
+
+  abbrev parted : After-separation-apart
+  parted = sized.before
+
+  abbrev start : Start
+  start = parted.before
+
+  abbrev e : ℤ
+  e = (place_towards start.args.latitude start.args.to_moon).elevation
+
+  rm_is : c.moon_radius-rm.result ≡ moon_radius start.args.moon e
+  rm_is =
+      c.moon_radius-rm.ensures
+      ∙ ap (moon_radius start.args.moon)
+      (told {r = placed.place_towards-elevation.result.elevation} (ap (λ (p : Place). p.elevation) placed.place_towards-elevation.ensures) (place_towards_in_turns start.args.latitude start.args.to_moon).elevation_size tt).same
+
+  sizes : Radii sized.sun_radius-rs.result c.moon_radius-rm.result
+  sizes =
+      subst⁻¹ (λ (n : ℕ). Radii n c.moon_radius-rm.result) sized.sun_radius-rs.ensures
+      (subst⁻¹ (λ (n : ℕ). Radii (sun_radius start.args.sun) n) rm_is (radii e start.requires.table_value.1.0 start.requires.table_value.1.1))
+
+  apart_most : parted.separation-apart.result ≤ half_turn
+  apart_most = subst⁻¹ (λ (n : ℕ). n ≤ half_turn) parted.separation-apart.ensures (separation_most _ _)
+
+-- the share
+module _ (c : After-share-covered) where
+  abbrev before : After-moon_radius-rm
+  before = c.before
+
+  share_is : c.share-covered.result ≡ share (separation (start before).args.to_sun (start before).args.to_moon) (sun_radius (start before).args.sun) (moon_radius (start before).args.moon (e before))
+  share_is = c.share-covered.ensures.value ∙ (λ i. share ((parted before).separation-apart.ensures i) ((sized before).sun_radius-rs.ensures i) (rm_is before i))
+
+  share_most : c.share-covered.result ≤ whole
+  share_most =
+      subst⁻¹ (λ (n : ℕ). n ≤ whole) c.share-covered.ensures.value
+      (every_share_holds (parted before).separation-apart.result (sized before).sun_radius-rs.result before.moon_radius-rm.result).at_most_whole
+
+pub share-covered-requires : goal.share-covered-requires
+share-covered-requires c = ((start (goal.at.share-covered-requires c).After-moon_radius-rm).requires.table_value.0, sizes (goal.at.share-covered-requires c).After-moon_radius-rm)
+
+pub overflow_cast-result : goal.overflow_cast-result
+overflow_cast-result c = nat_fits (apart_most (before (goal.at.overflow_cast-result c).After-share-covered)) tt
+
+pub overflow_cast-result-2 : goal.overflow_cast-result-2
+overflow_cast-result-2 c = nat_fits (sizes (before (goal.at.overflow_cast-result-2 c).After-share-covered)).sun_most tt
+
+pub overflow_cast-result-3 : goal.overflow_cast-result-3
+overflow_cast-result-3 c = nat_fits (sizes (before (goal.at.overflow_cast-result-3 c).After-share-covered)).moon_most tt
+
+pub overflow_cast-result-4 : goal.overflow_cast-result-4
+overflow_cast-result-4 c = nat_fits (share_most (goal.at.overflow_cast-result-4 c).After-share-covered) tt
+
+pub returns : goal.returns
+unfolding eclipse_of
+returns c =
+    let k = before (goal.at.returns c).After-share-covered in
+    λ i. record {
+      separation = ((from_nat (apart_most k) tt).same ∙ ap pos (parted k).separation-apart.ensures) i;
+      sun_radius = ((from_nat (sizes k).sun_most tt).same ∙ ap pos (sized k).sun_radius-rs.ensures) i;
+      moon_radius = ((from_nat (sizes k).moon_most tt).same ∙ ap pos (rm_is k)) i;
+      share = ((from_nat (share_most (goal.at.returns c).After-share-covered) tt).same ∙ ap pos (share_is (goal.at.returns c).After-share-covered)) i;
+    }

@@ -1,0 +1,55 @@
+-- `numbers::root::root` meets its contract. The invariant: the root so far is the greatest whole number whose square isn't above the first k pairs of x.
+use mathlib.Core.Path.{◌≡◌, refl, sym}
+use Prim.Native.Nat.{◌*◌, ◌+◌, ◌-◌, ◌<◌, ◌≤◌, ℕ}
+use native.Mathlib.Omega.{arith}
+use lib.ListN.{get_or}
+use Rattle.numbers.specs.RootDigits.{AfterDigit, digits_of, pair, pairs, taken}
+use Rattle.numbers.specs.declared.root.SoFar.{SoFar}
+use Rattle.numbers.proofs.RootDigitsLaws.{last_is_root, pair_by_pair, pair_most, taken_most}
+use Rattle.numbers.proofs.RootLaws.{between}
+use Rattle.numbers.proofs.root.root.Goals as goal
+use Rattle.numbers.proofs.root.root.Goals.{In-loop-k}
+
+-- one round, in which the pair after k others is taken
+module _ (c : In-loop-k) where
+  abbrev x : ℕ
+  x = c.args.x
+
+  abbrev k : ℕ
+  k = c.loop-k.k
+
+  abbrev so_far : SoFar
+  so_far = c.loop-k.so_far
+
+  abbrev next : ℕ
+  next = get_or c.pairs_of-marked.result k 0
+
+  after : AfterDigit (taken x k) so_far
+  after = c.loop-k.invariant.1
+
+  more : k < pairs
+  more = omega arith
+
+  next_is : next ≡ pair x k
+  next_is = c.pairs_of-marked.ensures k more
+
+  taken_next : 100 * digits_of so_far + next ≡ taken x (k + 1)
+  taken_next = rw (after.left_over, next_is) (sym ((pair_by_pair x).next k more))
+
+pub loop-k-init : goal.loop-k-init
+loop-k-init c =
+    let none = (pair_by_pair c.args.x).none_yet (omega arith) in
+    (omega arith, rw none (record { root_so_far = between 0 0 (omega arith) (omega arith); left_over = refl }))
+
+pub next_digit-so_far-requires : goal.next_digit-so_far-requires
+next_digit-so_far-requires c =
+    (rw (after (goal.at.next_digit-so_far-requires c).In-loop-k).left_over (after (goal.at.next_digit-so_far-requires c).In-loop-k), rw (next_is (goal.at.next_digit-so_far-requires c).In-loop-k) (pair_most (x (goal.at.next_digit-so_far-requires c).In-loop-k) (k (goal.at.next_digit-so_far-requires c).In-loop-k)), omega (arith, taken_next (goal.at.next_digit-so_far-requires c).In-loop-k, taken_most (x (goal.at.next_digit-so_far-requires c).In-loop-k) (k (goal.at.next_digit-so_far-requires c).In-loop-k + 1)))
+
+pub loop-k-preserved : goal.loop-k-preserved
+loop-k-preserved c = (omega arith, rw (taken_next (goal.at.loop-k-preserved c).In-loop-k) at c.next_digit-so_far.ensures)
+
+pub returns : goal.returns
+returns c =
+    let x = c.args.x in
+    let all : c.loop-k.k ≡ pairs = omega arith in
+    last_is_root x c.loop-k.so_far (rw all at c.loop-k.invariant.1)

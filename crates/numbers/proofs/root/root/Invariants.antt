@@ -1,0 +1,15 @@
+use mathlib.Core.Path.{◌≡◌, refl, sym}
+use Prim.Native.Nat.{◌*◌, ◌+◌, ◌-◌, ◌<◌, ◌≤◌, ℕ}
+use native.Mathlib.Omega.{arith}
+use lib.ListN.{get_or}
+use Rattle.numbers.specs.RootDigits.{AfterDigit, digits_of, pair, pairs, taken}
+use Rattle.numbers.specs.declared.root.SoFar.{SoFar}
+use Rattle.numbers.proofs.RootDigitsLaws.{last_is_root, pair_by_pair, pair_most, taken_most}
+use Rattle.numbers.proofs.RootLaws.{between}
+use Rattle.numbers.proofs.root.root.Given as goal
+
+abbrev pub invariant-loop-k : goal.invariant-loop-k
+invariant-loop-k l = (l.k ≤ pairs) × AfterDigit (taken l.x l.k) l.so_far
+
+abbrev pub decreases-loop-k : goal.decreases-loop-k
+decreases-loop-k l = pairs - l.k

@@ -1,0 +1,19 @@
+-- `refraction::formula::measured_refraction` meets its contract.
+use mathlib.Core.Path.{◌∙◌, ap}
+use borrow.Author.Rules.{rules}
+use Rattle.numbers.proofs.Machine.{arg, passed}
+use Rattle.numbers.specs.SineCosine.{sine_cosine}
+use Rattle.refraction.specs.Refraction.{formula, measured_refraction, raised}
+use Rattle.numbers.proofs.SineCosineLaws.{gave_one_angle, gave_sine_cosine}
+use Rattle.refraction.proofs.formula.measured_refraction.Goals as goal
+
+pub formula-requires : goal.formula-requires
+formula-requires c = gave_one_angle _ c.sine_cosine_in.ensures
+
+pub returns : goal.returns
+unfolding measured_refraction
+returns c =
+    c.formula.ensures
+    ∙ ap (formula c.args.p c.args.t)
+    (gave_sine_cosine _ c.sine_cosine_in.ensures
+    ∙ ap sine_cosine (passed c.raised.type_inv (c.raised.ensures ∙ ap raised (arg c.ranges.e c.requires.1.size).same)))

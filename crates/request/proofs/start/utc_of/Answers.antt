@@ -1,0 +1,44 @@
+-- `request::start::utc_of` meets its contract.
+use mathlib.Core.Path.{◌∙◌, ap}
+use lib.IntN.{pos}
+use borrow.Author.Rules.{rules}
+use Rattle.numbers.proofs.Machine.{Mirror, ◌⊕◌, ◌⊗◌, fits, gave, kept, lit}
+use Rattle.number_rules.specs.Calendar.{DayAnswer}
+use Rattle.request.proofs.RequestLaws.{accepted, clock_passes}
+use Rattle.request.specs.Request.{utc}
+use Rattle.request.specs.declared.start.Start.{Start}
+use Rattle.sum_rules.proofs.AcceptedInstants.{days_small, elapsed_small}
+use Rattle.sum_rules.specs.Instant.{day}
+use Rattle.request.proofs.start.utc_of.Goals as goal
+use Rattle.request.proofs.start.utc_of.Goals.{After-days_in, After-elapsed_of, Start}
+
+module _ (c : After-days_in) where
+  abbrev s : Start
+  s = c.before.before
+
+  abbrev start : Start
+  start = s.args.start
+
+  abbrev days : Mirror
+  days =
+      lit (pos day)
+      ⊗ gave c.days_in.type_inv (c.days_in.ensures ∙ ap (λ (a : DayAnswer). a.days) c.date_of.ensures.equal) (days_small (accepted start s.requires))
+
+module _ (c : After-elapsed_of) where
+  abbrev units : Mirror
+  units =
+      kept (days c.before) tt
+      ⊕ gave c.elapsed_of.type_inv c.elapsed_of.ensures (elapsed_small (accepted (start c.before) (s c.before).requires))
+
+pub overflow_mul-result : goal.overflow_mul-result
+overflow_mul-result c = fits (days (goal.at.overflow_mul-result c).After-days_in) tt
+
+pub elapsed_of-requires : goal.elapsed_of-requires
+elapsed_of-requires c = clock_passes (start (goal.at.elapsed_of-requires c).After-days_in) (s (goal.at.elapsed_of-requires c).After-days_in).requires
+
+pub overflow_add-result : goal.overflow_add-result
+overflow_add-result c = fits (units (goal.at.overflow_add-result c).After-elapsed_of) tt
+
+pub returns : goal.returns
+unfolding utc
+returns c = (kept (units (goal.at.returns c).After-elapsed_of) tt).same

@@ -1,0 +1,10 @@
+-- `header::body_in` meets its contract.
+use mathlib.Core.Path.{refl}
+use borrow.Author.Tests.{eq-eqb, ne_eqb}
+use Rattle.strip.proofs.header.body_in.Goals as goal
+
+pub returns-then-byte-eq0 : goal.returns-then-byte-eq0
+returns-then-byte-eq0 c = rw (eq-eqb c.args.byte 0 c.if-byte-eq0.true) refl
+
+pub returns-else-byte-eq0 : goal.returns-else-byte-eq0
+returns-else-byte-eq0 c = rw (ne_eqb c.args.byte 0 c.if-byte-eq0.false) refl

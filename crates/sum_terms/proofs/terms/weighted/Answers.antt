@@ -1,0 +1,31 @@
+-- `sum_terms::terms::weighted` meets its contract.
+use mathlib.Core.List.{[], ◌∷◌}
+use mathlib.Core.Path.{◌∙◌, ap, sym}
+use lib.IntN.{◌*ℤ◌, ℤ}
+use borrow.Author.Rules.{rules}
+use Rattle.arithmetic.proofs.Integers.{solveℤ}
+use Rattle.arithmetic.proofs.Solver.{◌:*◌, k0, x0}
+use Rattle.number_rules.specs.Sine.{cosine, sine}
+use Rattle.numbers.proofs.Machine.{Mirror, ◌⊗◌, any, arg, fits, gave, is_zero, kept}
+use Rattle.number_rules.proofs.SineSize.{cosine_most, sine_most}
+use Rattle.sum_terms.proofs.terms.weighted.Goals as goal
+use Rattle.sum_terms.proofs.terms.weighted.Goals.{After-cosine_in, After-sine_in}
+
+abbrev by_sine : After-sine_in → Mirror
+by_sine c =
+    let s = c.before in
+    arg s.ranges.first s.requires.1.0 ⊗ gave c.sine_in.type_inv (c.sine_in.ensures ∙ ap sine (any s.ranges.angle).same) (sine_most s.args.angle)
+
+abbrev by_cosine : After-cosine_in → Mirror
+by_cosine c =
+    let s = c.before.before.before in
+    arg s.ranges.second s.requires.1.1 ⊗ gave c.cosine_in.type_inv (c.cosine_in.ensures ∙ ap cosine (any s.ranges.angle).same) (cosine_most s.args.angle)
+
+pub returns-then-second-eq0 : goal.returns-then-second-eq0
+returns-then-second-eq0 c = (
+  (kept (by_sine (goal.at.returns-then-second-eq0 c).After-sine_in) tt).same,
+  sym (ap (λ (w : ℤ). w *ℤ cosine c.args.angle) (is_zero c.ranges.second c.if-second-eq0.true) ∙ solveℤ (k0 :* x0) k0 (cosine c.args.angle ∷ []) tt),
+)
+
+pub returns-else-second-eq0 : goal.returns-else-second-eq0
+returns-else-second-eq0 c = ((kept (by_sine (goal.at.returns-else-second-eq0 c).After-sine_in) tt).same, (kept (by_cosine (goal.at.returns-else-second-eq0 c).After-cosine_in) tt).same)

@@ -1,0 +1,51 @@
+-- `sun_sums::sun::group` meets its contract. The invariant: the sum is that of the rows before i; n stands in it by its bits.
+use mathlib.Core.List.{List}
+use mathlib.Core.Path.{◌∙◌, ap, refl}
+use Prim.Native.Nat.{◌-◌, ◌<◌, ◌≤◌, zero-le, ℕ}
+use native.Mathlib.Omega.{arith}
+use lib.IntN.{ℤ}
+use lib.ListN.{length}
+use mir.Syntax.{w64}
+use mir.Val.{of_z, to_z}
+use borrow.Author.Rules.{rules}
+use Rattle.numbers.proofs.Machine.{any, handed}
+use Rattle.sum_rules.specs.Sun.{group, row_value}
+use Rattle.sum_rules.specs.Table.{total}
+use Rattle.sum_terms.proofs.SumLoop.{Next, Summed, all_added, next}
+use Rattle.sun_sums.proofs.SunLaws.{group_summing}
+use Rattle.sun_sums.proofs.sun.group.Goals as goal
+use Rattle.sun_sums.proofs.sun.group.Goals.{After-row_value-sum, At-loop-i, Start}
+
+abbrev n : Start → ℤ
+n s = to_z w64 (of_z w64 s.args.n)
+
+-- a turn of the loop
+module _ (c : After-row_value-sum) where
+  abbrev turn : At-loop-i
+  turn = c.before.before.before
+
+  abbrev rows : List (List ℕ)
+  rows = turn.args.rows.now
+
+  abbrev inside : turn.loop-i.i < length rows
+  inside = c.loop-i-test.true
+
+  sum_next : Next (row_value (n turn.before)) rows turn.loop-i.i turn.loop-i.sum c.row_value-sum.result
+  sum_next =
+      next (group_summing (n turn.before) rows turn.requires.1.1) tt
+      turn.loop-i.i turn.loop-i.sum inside turn.loop-i.invariant.1 c.row_value-sum.ensures
+
+pub loop-i-init : goal.loop-i-init
+unfolding total
+loop-i-init c = (zero-le, refl)
+
+pub row_value-sum-requires : goal.row_value-sum-requires
+row_value-sum-requires c =
+    (c.requires.0, (handed c.ranges.n c.requires.1.0, c.requires.1.1.each c.loop-i.i c.loop-i-test.true))
+
+pub returns : goal.returns
+returns c =
+    let s = (goal.at.returns c).Start in
+    let t = c.loop-i in
+    all_added (row_value (n s)) s.args.rows.now t.i t.sum c.loop-i-test.false t.invariant.1
+    ∙ ap (λ (z : ℤ). group z s.args.rows.now) (any s.ranges.n).same

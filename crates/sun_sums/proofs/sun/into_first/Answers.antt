@@ -1,0 +1,32 @@
+-- `sun_sums::sun::into_first` meets its contract.
+use mathlib.Core.Path.{◌∙◌, ap}
+use native.Mathlib.Nat.{le_trans}
+use lib.IntN.{ℤ}
+use Rattle.numbers.proofs.Machine.{Mirror, ◌⊕◌, arg, asked, fits, gave, kept}
+use Rattle.numbers.proofs.WideProduct.{mul_div_asked, mul_div_gave}
+use Rattle.sum_rules.specs.Instant.{millennium}
+use Rattle.sum_rules.specs.Sun.{group}
+use Rattle.sun_sums.proofs.SunLaws.{group_most}
+use Rattle.sun_sums.proofs.sun.into_first.Goals as goal
+use Rattle.sun_sums.proofs.sun.into_first.Goals.{After-group, After-mul_div, Start}
+
+abbrev v_mirror : Start → Mirror
+v_mirror s = arg s.ranges.v s.requires.1.1.1
+
+abbrev n_mirror : Start → Mirror
+n_mirror s = arg s.ranges.n s.requires.1.0
+
+abbrev group_mirror : After-group → Mirror
+group_mirror c =
+    let s = c.before in
+    gave c.group.type_inv (c.group.ensures ∙ ap (λ (z : ℤ). group z s.args.rows.now) (n_mirror s).same)
+    (le_trans (group_most s.args.n s.args.rows.now) s.requires.1.1.0.all)
+
+abbrev sum : After-mul_div → Mirror
+sum c = group_mirror c.before ⊕ mul_div_gave (v_mirror c.before.before) (n_mirror c.before.before) millennium c.mul_div.type_inv c.mul_div.ensures
+
+pub group-requires : goal.group-requires
+group-requires c = (c.requires.0, (asked (n_mirror (goal.at.group-requires c).Start) tt, c.requires.1.1.0))
+
+pub mul_div-requires : goal.mul_div-requires
+mul_div-requires c = mul_div_asked (v_mirror (goal.at.mul_div-requires c).Start) (n_mirror (goal.at.mul_div-requires c).Start) millennium tt

@@ -1,0 +1,52 @@
+-- `sun_sums::sun::row_value` meets its contract.
+use mathlib.Core.List.{List}
+use mathlib.Core.Path.{◌∙◌, ◌≡◌, ap, subst⁻¹, sym}
+use Prim.Native.Nat.{◌≤◌, ℕ}
+use lib.IntN.{pos, ℤ}
+use borrow.Author.Rules.{rules}
+use Rattle.number_rules.specs.Angle.{full_turn}
+use Rattle.number_rules.specs.Sine.{cosine}
+use Rattle.numbers.proofs.Machine.{Mirror, ◌⊗◌, any, fits, floor_gave, from_nat, gave, kept, lit, nat_fits}
+use Rattle.number_rules.proofs.SineSize.{cosine_most}
+use Rattle.sum_rules.specs.Sun.{row_A, row_B, row_C, row_angle, row_value}
+use Rattle.sun_sums.specs.SunRange.{SmallRay}
+use Rattle.sun_sums.proofs.SunLaws.{above, constant_value, row_angle_small}
+use Rattle.sun_sums.proofs.sun.row_value.Goals as goal
+use Rattle.sun_sums.proofs.sun.row_value.Goals.{After-cosine_in, After-row_angle, Start}
+
+module _ (s : Start) where
+  abbrev row : List ℕ
+  row = s.args.row
+
+  abbrev small : SmallRay row
+  small = s.requires.1.1
+
+  abbrev constant : Mirror
+  constant = lit (pos 100) ⊗ from_nat {n = row_A row} small.constant tt
+
+angle_is : (c : After-row_angle) → c.row_angle.result ≡ row_angle c.args.n (row_B (row c.before.before)) (row_C (row c.before.before))
+angle_is c =
+    c.row_angle.ensures ∙ ap (λ (z : ℤ). row_angle z (row_B (row c.before.before)) (row_C (row c.before.before)))
+    (any c.ranges.n).same
+
+angle_small : (c : After-row_angle) → c.row_angle.result ≤ full_turn
+angle_small c =
+    subst⁻¹ (λ (a : ℕ). a ≤ full_turn) (angle_is c)
+    (row_angle_small c.args.n (row_B (row c.before.before)) (row_C (row c.before.before)))
+
+abbrev product : After-cosine_in → Mirror
+product c =
+    let s = c.before.before.before in
+    from_nat {n = row_A (row s)} ((small s).moving (above (row_B (row s)) (row_C (row s)) c.if-b-c-eq0.false)) tt
+    ⊗ gave c.cosine_in.type_inv (c.cosine_in.ensures ∙ ap cosine ((from_nat (angle_small c.before) tt).same ∙ ap pos (angle_is c.before)))
+    (cosine_most (pos (row_angle s.args.n (row_B (row s)) (row_C (row s)))))
+
+pub overflow_cast-row_angle : goal.overflow_cast-row_angle
+overflow_cast-row_angle c = nat_fits (angle_small (goal.at.overflow_cast-row_angle c).After-row_angle) tt
+
+pub returns-then-b-c-eq0 : goal.returns-then-b-c-eq0
+returns-then-b-c-eq0 c = (kept (constant (goal.at.returns-then-b-c-eq0 c).Start) tt).same ∙ sym (constant_value c.args.n (row (goal.at.returns-then-b-c-eq0 c).Start) c.if-b-c-eq0.true)
+
+pub returns-else-b-c-eq0 : goal.returns-else-b-c-eq0
+unfolding row_value
+returns-else-b-c-eq0 c = (floor_gave (kept (product (goal.at.returns-else-b-c-eq0 c).After-cosine_in) tt) 10_000_000 c.floor_div.type_inv c.floor_div.ensures).same
