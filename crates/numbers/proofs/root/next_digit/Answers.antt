@@ -1,40 +1,65 @@
 -- `numbers::root::next_digit` meets its contract: (10 r + d)² = 100 r² + (20 r + d) d, so d is the next digit where it takes the most of what is left.
-use Prim.Native.Nat.{◌*◌, ◌<◌, ◌^◌}
+use Prim.Native.Nat.{◌*◌, ◌+◌, ◌<◌, ◌^◌, ℕ}
+use mathlib.Core.Path.{◌≡◌, subst⁻¹, subst}
 use native.Mathlib.Omega.{arith}
-use borrow.Author.Rules.{rules}
-use Rattle.numbers.specs.RootDigits.{taking}
-use Rattle.numbers.proofs.RootDigitsLaws.{after_next, below, rest, root_small, ten_too_large, twentyfold}
+use Rattle.numbers.specs.Root.{Greatest}
+use Rattle.numbers.specs.RootDigits.{AfterDigit, digits_of, taking}
+use Rattle.numbers.specs.declared.root.SoFar.{SoFar}
+use Rattle.numbers.proofs.RootDigitsLaws.{after_next, below, rest, root_small, ten_too_large, twentyfold, with_digit}
 use Rattle.numbers.proofs.root.next_digit.Goals as goal
-use Rattle.numbers.proofs.root.next_digit.Goals.{After-struct_known-3-1, Start}
 
-small : (c : Start) → 10 * c.args.before.root < 2 ^ 32
-small c = root_small c.args.before c.args.pair c.requires.0 c.requires.2
+-- the digits taken before are those of the root so far, one pair more fits, and the next digit is not ten
+module _ (before : SoFar) (pair digits : ℕ) (are : digits_of before ≡ digits) (so_far : AfterDigit digits before) (few : pair < 100) (fits : 100 * digits + pair < 2 ^ 64) where
+  own : AfterDigit (digits_of before) before
+  own = subst⁻¹ (λ (n : ℕ). AfterDigit n before) are so_far
 
-not_ten : (c : Start) → rest c.args.before c.args.pair < taking (twentyfold c.args.before) 10
-not_ten c = ten_too_large c.args.before c.args.pair c.requires.0 c.requires.1
+  small : 10 * before.root < 2 ^ 32
+  small = root_small before pair own (omega (arith, are))
 
-is_digit : (c : After-struct_known-3-1) → c.greatest_digit-digit.result < 10
-is_digit c =
-    let start = c.before.before.before.before in
-    let digit = c.greatest_digit-digit in
-    below (twentyfold start.args.before) (rest start.args.before start.args.pair) 10 digit.result (not_ten start) digit.ensures.not_above
+  not_ten : rest before pair < taking (twentyfold before) 10
+  not_ten = ten_too_large before pair own few
 
 pub overflow_mul-twentyfold : goal.overflow_mul-twentyfold
-overflow_mul-twentyfold c = omega (arith, small (goal.at.overflow_mul-twentyfold c).Start)
+overflow_mul-twentyfold g c =
+    let r = c.requires in
+    omega (arith, small c.args.before c.args.pair g.digits r.0 r.1.0 r.1.1 r.1.2)
 
 pub greatest_digit-digit-requires : goal.greatest_digit-digit-requires
-greatest_digit-digit-requires c = (omega (arith, small (goal.at.greatest_digit-digit-requires c).Start), omega (arith, not_ten (goal.at.greatest_digit-digit-requires c).Start))
+greatest_digit-digit-requires g c =
+    let r = c.requires in
+    let s = small c.args.before c.args.pair g.digits r.0 r.1.0 r.1.1 r.1.2 in
+    (omega (arith, s), not_ten c.args.before c.args.pair g.digits r.0 r.1.0 r.1.1 r.1.2)
+
+-- the digit is below ten, since ten is too large
+is_digit : (before : SoFar) (pair d : ℕ) → Greatest (taking (twentyfold before)) (rest before pair) d → rest before pair < taking (twentyfold before) 10 → d < 10
+is_digit before pair d greatest large = below (twentyfold before) (rest before pair) 10 d large greatest.not_above
 
 pub overflow_mul-result : goal.overflow_mul-result
-overflow_mul-result c = omega (arith, small (goal.at.overflow_mul-result c).Start)
+overflow_mul-result g c =
+    let r = c.requires in
+    omega (arith, small c.args.before c.args.pair g.digits r.0 r.1.0 r.1.1 r.1.2)
 
 pub overflow_add-result : goal.overflow_add-result
-overflow_add-result c = omega (arith, small (goal.at.overflow_add-result c).Start, is_digit (goal.at.overflow_add-result c).After-struct_known-3-1)
+overflow_add-result g c =
+    let r = c.requires in
+    let large = not_ten c.args.before c.args.pair g.digits r.0 r.1.0 r.1.1 r.1.2 in
+    omega (
+      arith,
+      small c.args.before c.args.pair g.digits r.0 r.1.0 r.1.1 r.1.2,
+      is_digit c.args.before c.args.pair c.greatest_digit-digit.result c.greatest_digit-digit.ensures large,
+    )
 
 pub overflow_add-result-2 : goal.overflow_add-result-2
-overflow_add-result-2 c = omega (arith, small (goal.at.overflow_add-result-2 c).Start, is_digit (goal.at.overflow_add-result-2 c).After-struct_known-3-1)
+overflow_add-result-2 g c =
+    let r = c.requires in
+    let large = not_ten c.args.before c.args.pair g.digits r.0 r.1.0 r.1.1 r.1.2 in
+    omega (
+      arith,
+      small c.args.before c.args.pair g.digits r.0 r.1.0 r.1.1 r.1.2,
+      is_digit c.args.before c.args.pair c.greatest_digit-digit.result c.greatest_digit-digit.ensures large,
+    )
 
 pub returns : goal.returns
-returns c =
-    let args = c.args in
-    after_next args.before args.pair c.greatest_digit-digit.result c.greatest_digit-digit.ensures
+returns g c =
+    let next = after_next c.args.before c.args.pair c.greatest_digit-digit.result c.greatest_digit-digit.ensures in
+    subst (λ (n : ℕ). AfterDigit (100 * n + c.args.pair) (with_digit c.args.before c.args.pair c.greatest_digit-digit.result)) c.requires.0 next

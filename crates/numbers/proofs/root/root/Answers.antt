@@ -43,7 +43,8 @@ loop-k-init c =
 
 pub next_digit-so_far-requires : goal.next_digit-so_far-requires
 next_digit-so_far-requires c =
-    (rw (after (goal.at.next_digit-so_far-requires c).In-loop-k).left_over (after (goal.at.next_digit-so_far-requires c).In-loop-k), rw (next_is (goal.at.next_digit-so_far-requires c).In-loop-k) (pair_most (x (goal.at.next_digit-so_far-requires c).In-loop-k) (k (goal.at.next_digit-so_far-requires c).In-loop-k)), omega (arith, taken_next (goal.at.next_digit-so_far-requires c).In-loop-k, taken_most (x (goal.at.next_digit-so_far-requires c).In-loop-k) (k (goal.at.next_digit-so_far-requires c).In-loop-k + 1)))
+    let round = (goal.at.next_digit-so_far-requires c).In-loop-k in
+    (refl, (rw (after round).left_over (after round), rw (next_is round) (pair_most (x round) (k round)), omega (arith, taken_next round, taken_most (x round) (k round + 1))))
 
 pub loop-k-preserved : goal.loop-k-preserved
 loop-k-preserved c = (omega arith, rw (taken_next (goal.at.loop-k-preserved c).In-loop-k) at c.next_digit-so_far.ensures)
