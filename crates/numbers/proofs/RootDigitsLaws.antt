@@ -40,7 +40,7 @@ abbrev pub twentyfold : SoFar → ℕ
 twentyfold before = 20 * before.root
 
 module _ (before : SoFar) (next : ℕ) where
-  abbrev with_digit : ℕ → SoFar
+  abbrev pub with_digit : ℕ → SoFar
   with_digit d = record { root = 10 * before.root + d; remainder = rest before next - taking (twentyfold before) d }
 
   -- (10 r + d)² is 100 r² + (20 r + d) d
