@@ -1,5 +1,5 @@
 # make               build the command `raddlehue` over the proved archive, and show today's Sun and Moon
-# make test          the gate: outside checks, every proof from nothing (it removes target/ first), every must-fail edit
+# make test          the gate: outside checks, every proof, every must-fail edit, every program (what `rt ci` proved of the same files on this machine is kept)
 # make differential  a million random requests and 5,000 whole days, the archive against the ordinary Rust version
 # make memcheck      a million damaged strips, and turning points at their edges, under valgrind: nothing is read or written outside of what was lent (minutes)
 # make figures       measure, and write docs/FIGURES.md
@@ -16,10 +16,13 @@ LIBDIR ?= $(PREFIX)/lib
 INCLUDEDIR ?= $(PREFIX)/include
 DOCDIR ?= $(PREFIX)/share/doc/raddlehue
 INSTALL ?= install
+RT := rt
 
 LIB := target/lib/libraddlehue.a
 COMMAND := target/bin/raddlehue
-SOURCES := crates.txt $(shell find crates -name '*.rt' -o -name '*.antt')
+# the proved programs that answer lines
+PROGRAMS := target/bin/sheet target/bin/places target/bin/days
+SOURCES := crates.txt $(shell find crates -name out -prune -o \( -name '*.rt' -o -name '*.antt' \) -print)
 COMMAND_SOURCES := $(shell find command bindings/rust -path '*/target' -prune -o -type f -print)
 VERSION = $(shell sed -n 's/^\#define RADDLEHUE_VERSION "\(.*\)"/\1/p' include/raddlehue.h)
 
@@ -66,18 +69,27 @@ figures:
 	$(needs_rt)
 	@tools/figures
 
-# rt keeps what is proved, knows by itself what has changed, and prints a line for each crate
+# rt keeps what is proved in each crate's out/, knows by itself what has changed, and prints a line for each crate that it begins; the archive is for every x86-64, and not for rt's
+# newer ones alone
 lib:
 	$(needs_rt)
 	@echo "proving and building the archive: some minutes the first time, a line for each crate"
 	@mkdir -p $(dir $(LIB))
-	@rt staticlib capi 2>&1 | tee $(LIB:.a=.log) | grep --line-buffered '^rt: ' || { tail -n 20 $(LIB:.a=.log) >&2; exit 1; }
-	@cp target/staticlib/libcapi.a $(LIB)
+	@(cd crates/capi && $(RT) lib --cpu=x86-64) 2>&1 | tee $(LIB:.a=.log) | sed -un '/^rt: /p' || { tail -n 20 $(LIB:.a=.log) >&2; exit 1; }
+	@cp crates/capi/out/libcapi.a $(LIB)
 	@echo "$(LIB)"
 
 # who installs what `make lib` has made needs no kit, unless the sources are newer
 $(LIB): $(SOURCES)
 	@$(MAKE) --no-print-directory lib
+
+# rt builds a program and runs it: on the crate's own input, it has to print what the crate says
+$(PROGRAMS): $(SOURCES)
+	$(needs_rt)
+	@echo "proving and building the program $@"
+	@mkdir -p $(@D)
+	@(cd crates/$(@F) && $(RT) run < stdin 2> ../../$@.log | cmp - stdout) || { tail -n 20 $@.log >&2; exit 1; }
+	@cp crates/$(@F)/out/$(@F) $@
 
 install: $(LIB) $(COMMAND)
 	@$(INSTALL) -d "$(DESTDIR)$(BINDIR)" "$(DESTDIR)$(LIBDIR)/pkgconfig" "$(DESTDIR)$(INCLUDEDIR)" "$(DESTDIR)$(DOCDIR)/docs"

@@ -123,27 +123,28 @@ class Sun:
 
 # ---- the cases, in the order of the lists
 def cases():
-    yield "in-degrees (nat 1)", in_degrees(1)
+    yield "in_degrees (nat 1)", in_degrees(1)
     yield "sin° (nat 180)", sine(Fraction(180))
     yield "cos° (nat 180)", cosine(Fraction(180))
     for mark, n in INSTANTS.items():
         moon, sun = Moon(n), Sun(n)
         for name in ("Lp", "D", "M", "Mp", "F", "A1", "A2", "A3"):
-            yield f"degrees T{mark} {name.replace('p', '′')}", moon.degrees[name]
+            letter = name.replace("p", "'")
+            yield f"degrees T{mark} {letter}", moon.degrees[name]
         yield f"E T{mark}", moon.E
         for i in (0, 4, 7, 33, 34):  # m 0, 1, -1, 2, -2
-            yield f"sine-term T{mark} (row longitude-distance-terms {i})", moon.by_sine(LONGITUDE_DISTANCE[i])
+            yield f"sine_term T{mark} (row longitude_distance_terms {i})", moon.by_sine(LONGITUDE_DISTANCE[i])
         for i in (0, 7, 42):  # m 0, -1, 2
-            yield f"cosine-term T{mark} (row longitude-distance-terms {i})", moon.by_cosine(LONGITUDE_DISTANCE[i])
-        yield f"sine-term T{mark} (row latitude-terms 10)", moon.by_sine(LATITUDE[10])  # m -1
+            yield f"cosine_term T{mark} (row longitude_distance_terms {i})", moon.by_cosine(LONGITUDE_DISTANCE[i])
+        yield f"sine_term T{mark} (row latitude_terms 10)", moon.by_sine(LATITUDE[10])  # m -1
         yield f"ray τ{mark} (row L0 1)", sun.ray(group("L0")[1])
         yield f"ray τ{mark} (row R1 0)", sun.ray(group("R1")[0])
     moon, sun = Moon(INSTANTS["₁"]), Sun(INSTANTS["₁"])
-    yield "moon-longitude T₁", moon.longitude()
-    yield "moon-latitude T₁", moon.latitude()
-    yield "moon-metres T₁", moon.metres()
+    yield "moon_longitude T₁", moon.longitude()
+    yield "moon_latitude T₁", moon.latitude()
+    yield "moon_metres T₁", moon.metres()
     for letter in "LBR":
-        yield f"sun-{letter} τ₁", sun.sum(letter)
+        yield f"sun_{letter} τ₁", sun.sum(letter)
 
 
 def nearest(value):

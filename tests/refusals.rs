@@ -12,12 +12,12 @@ const CODES: &str = "crates/boundary/specs/Codes.antt";
 
 // How the definitions begin a clause, and what the list puts before its name.
 const FAMILIES: [(&str, &str); 3] =
-    [("number Of.", ""), ("strip-number Strips.", "STRIP_"), ("proposal-number Proposals.", "PROPOSAL_")];
+    [("number Of.", ""), ("strip_number Strips.", "STRIP_"), ("proposal_number Proposals.", "PROPOSAL_")];
 
 // The two that carry a number are cases of their answers.
 const CARRYING: [(&str, &str, &str); 2] = [
-    ("crates/batch/specs/Batch.antt", "batch-answer (Late i) = record { refusal = ", "TOO_LATE"),
-    ("crates/proposal/specs/Verdict.antt", "judgement-answer (Out minute) = record { refusal = ", "PROPOSAL_OUT"),
+    ("crates/batch/specs/Batch.antt", "batch_answer (Late i) = record { refusal = ", "TOO_LATE"),
+    ("crates/proposal/specs/Verdict.antt", "judgement_answer (Out minute) = record { refusal = ", "PROPOSAL_OUT"),
 ];
 
 // Where our own numbers begin; the papers' stay below.
