@@ -1,6 +1,6 @@
 // The Sun's periodic terms (004, Table A4.2), as tables to lend: A, B times 10⁸, C times 10⁸.
 ghost use Rattle.std.specs.Prelude.{◌≡◌};
-ghost use Rattle.sum_rules.specs.SunTerms.{L0, L1, L2, L3, L4, L5, B0, B1, R0, R1, R2, R3, R4};
+ghost use Rattle.sum_rules.specs.SunTerms as SunTerms;
 
 const L0: [[u64; 3]; 64] = [
     [175_347_046, 0, 0],
@@ -71,7 +71,7 @@ const L0: [[u64; 3]; 64] = [
 
 // Heliocentric longitude, group 0.
 pub fn l0() -> [[u64; 3]; 64]
-    ensures { result ≡ L0 }
+    ensures { result ≡ SunTerms.L0 }
 {
     L0
 }
@@ -115,7 +115,7 @@ const L1: [[u64; 3]; 34] = [
 
 // Heliocentric longitude, group 1.
 pub fn l1() -> [[u64; 3]; 34]
-    ensures { result ≡ L1 }
+    ensures { result ≡ SunTerms.L1 }
 {
     L1
 }
@@ -145,7 +145,7 @@ const L2: [[u64; 3]; 20] = [
 
 // Heliocentric longitude, group 2.
 pub fn l2() -> [[u64; 3]; 20]
-    ensures { result ≡ L2 }
+    ensures { result ≡ SunTerms.L2 }
 {
     L2
 }
@@ -162,7 +162,7 @@ const L3: [[u64; 3]; 7] = [
 
 // Heliocentric longitude, group 3.
 pub fn l3() -> [[u64; 3]; 7]
-    ensures { result ≡ L3 }
+    ensures { result ≡ SunTerms.L3 }
 {
     L3
 }
@@ -175,7 +175,7 @@ const L4: [[u64; 3]; 3] = [
 
 // Heliocentric longitude, group 4.
 pub fn l4() -> [[u64; 3]; 3]
-    ensures { result ≡ L4 }
+    ensures { result ≡ SunTerms.L4 }
 {
     L4
 }
@@ -184,7 +184,7 @@ const L5: [[u64; 3]; 1] = [[1, 314_000_000, 0]];
 
 // Heliocentric longitude, group 5.
 pub fn l5() -> [[u64; 3]; 1]
-    ensures { result ≡ L5 }
+    ensures { result ≡ SunTerms.L5 }
 {
     L5
 }
@@ -199,7 +199,7 @@ const B0: [[u64; 3]; 5] = [
 
 // Heliocentric latitude, group 0.
 pub fn b0() -> [[u64; 3]; 5]
-    ensures { result ≡ B0 }
+    ensures { result ≡ SunTerms.B0 }
 {
     B0
 }
@@ -211,7 +211,7 @@ const B1: [[u64; 3]; 2] = [
 
 // Heliocentric latitude, group 1.
 pub fn b1() -> [[u64; 3]; 2]
-    ensures { result ≡ B1 }
+    ensures { result ≡ SunTerms.B1 }
 {
     B1
 }
@@ -261,7 +261,7 @@ const R0: [[u64; 3]; 40] = [
 
 // Radius, group 0.
 pub fn r0() -> [[u64; 3]; 40]
-    ensures { result ≡ R0 }
+    ensures { result ≡ SunTerms.R0 }
 {
     R0
 }
@@ -281,7 +281,7 @@ const R1: [[u64; 3]; 10] = [
 
 // Radius, group 1.
 pub fn r1() -> [[u64; 3]; 10]
-    ensures { result ≡ R1 }
+    ensures { result ≡ SunTerms.R1 }
 {
     R1
 }
@@ -297,7 +297,7 @@ const R2: [[u64; 3]; 6] = [
 
 // Radius, group 2.
 pub fn r2() -> [[u64; 3]; 6]
-    ensures { result ≡ R2 }
+    ensures { result ≡ SunTerms.R2 }
 {
     R2
 }
@@ -309,7 +309,7 @@ const R3: [[u64; 3]; 2] = [
 
 // Radius, group 3.
 pub fn r3() -> [[u64; 3]; 2]
-    ensures { result ≡ R3 }
+    ensures { result ≡ SunTerms.R3 }
 {
     R3
 }
@@ -318,7 +318,7 @@ const R4: [[u64; 3]; 1] = [[4, 256_000_000, 628_308_000_000]];
 
 // Radius, group 4.
 pub fn r4() -> [[u64; 3]; 1]
-    ensures { result ≡ R4 }
+    ensures { result ≡ SunTerms.R4 }
 {
     R4
 }

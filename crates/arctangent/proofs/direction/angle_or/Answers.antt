@@ -16,7 +16,7 @@ use Rattle.arctangent.proofs.direction.angle_or.Goals.{After-struct_known-1, Sta
 
 module _ (c : After-struct_known-1) where
   abbrev start : Start
-  start = c.before.before.before.before
+  start = (goal.at.After-struct_known-1 c).Start
 
   abbrev angle : Angle
   angle = c.in-Towards.angle

@@ -15,8 +15,7 @@ use Rattle.arctangent.proofs.direction.arctangent.Goals.{Joined-else-y-eq0}
 -- one of the two is not zero
 directed : (c : Joined-else-y-eq0) → 0 < nat_abs c.args.y + nat_abs c.args.x
 directed c =
-    let s = c.before in
-    ⊎_elim (λ w. omega (arith, not_zero s.args.x (eqb-false _ 0 w.1.left))) (λ w. omega (arith, not_zero s.args.y w.left)) c.else-y-eq0.branch
+    ⊎_elim (λ w. omega (arith, not_zero c.args.x (eqb-false _ 0 w.1.left))) (λ w. omega (arith, not_zero c.args.y w.left)) c.else-y-eq0.branch
 
 pub returns-then-x-eq0 : goal.returns-then-x-eq0
 returns-then-x-eq0 c =

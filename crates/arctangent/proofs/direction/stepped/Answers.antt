@@ -19,7 +19,7 @@ use Rattle.arctangent.proofs.direction.stepped.Goals.{After-sign_of-c, Start}
 
 module _ (c₀ : After-sign_of-c) where
   abbrev s : Start
-  s = c₀.before.before.before.before
+  s = (goal.at.After-sign_of-c c₀).Start
 
   abbrev k : ℕ
   k = s.args.k

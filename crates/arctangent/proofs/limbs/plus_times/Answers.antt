@@ -66,16 +66,16 @@ module _ (s : Start) where
       room_of high.number low.number (subst⁻¹ (λ (z : ℤ). nat_abs z ≤ 2 ^ 83) value_is s.requires.1.1.1) (left_small sum.number {d = limb} (lit< tt))
 
 abbrev s₁ : After-struct_told-1 → Start
-s₁ c = c.before.before
+s₁ c = (goal.at.After-struct_told-1 c).Start
 
 abbrev s₂ : After-struct_told-2-1 → Start
-s₂ c = s₁ c.before.before
+s₂ c = s₁ (goal.at.After-struct_told-2-1 c).After-struct_told-1
 
 abbrev s₃ : After-struct_told-3-1 → Start
-s₃ c = s₂ c.before.before
+s₃ c = s₂ (goal.at.After-struct_told-3-1 c).After-struct_told-2-1
 
 abbrev s₄ : After-struct_told-4-1 → Start
-s₄ c = s₃ c.before.before
+s₄ c = s₃ (goal.at.After-struct_told-4-1 c).After-struct_told-3-1
 
 pub overflow_mul-sum : goal.overflow_mul-sum
 overflow_mul-sum k = fits (c (s₁ (goal.at.overflow_mul-sum k).After-struct_told-1) ⊗ b_low (s₁ (goal.at.overflow_mul-sum k).After-struct_told-1)) tt

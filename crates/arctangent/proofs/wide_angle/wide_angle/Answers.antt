@@ -13,7 +13,7 @@ use Rattle.arctangent.proofs.wide_angle.wide_angle.Goals.{After-wide_started, St
 
 module _ (c : After-wide_started) where
   abbrev s : Start
-  s = c.before
+  s = (goal.at.After-wide_started c).Start
 
   start_is : turning c.wide_started.result ≡ start s.args.y s.args.x
   start_is = c.wide_started.ensures.0 ∙ (λ i. start ((any s.ranges.y).same i) ((any s.ranges.x).same i))
@@ -27,8 +27,7 @@ wide_turned-t-requires c = (c.wide_started.ensures.1, ((start_small (goal.at.wid
 pub returns : goal.returns
 unfolding angle_of
 returns c =
-    let t = (goal.at.returns c).After-wide_turned-t in
     c.new.ensures
     ∙ ap reduced
-    ((told {r = t.wide_turned-t.result.angle} refl t.wide_turned-t.ensures.1 tt).same
-    ∙ ap (λ (u : Turning). u.angle) (t.wide_turned-t.ensures.0 ∙ ap (steps 30) (start_is t.before)))
+    ((told {r = c.wide_turned-t.result.angle} refl c.wide_turned-t.ensures.1 tt).same
+    ∙ ap (λ (u : Turning). u.angle) (c.wide_turned-t.ensures.0 ∙ ap (steps 30) (start_is (goal.at.returns c).After-wide_started)))

@@ -28,7 +28,7 @@ module _ (s : Start) where
 
 module _ (c : After-term_sums-sums) where
   abbrev begun : Start
-  begun = c.before.before.before.before.before
+  begun = (goal.at.After-term_sums-sums c).Start
 
   sine_is : c.term_sums-sums.result.sine ≡ total (sine_term (arguments (n begun)) (u (n begun))) nutation_terms
   sine_is =
@@ -61,3 +61,6 @@ returns c =
       (floor_gave (kept (sine_scaled sums) tt) 90_000_000_000 c.floor_div.type_inv c.floor_div.ensures).same,
       (floor_gave (kept (cosine_scaled sums) tt) 90_000_000_000 c.floor_div-2.type_inv c.floor_div-2.ensures).same,
     )
+
+pub overflow_mul-sums : goal.overflow_mul-sums
+overflow_mul-sums c = fits (sine_scaled (goal.at.overflow_mul-sums c).After-term_sums-sums) tt

@@ -26,10 +26,10 @@ module _ (s : Start) where
 -- a turn of the loop
 module _ (c : After-row_terms-row) where
   abbrev turn : At-loop-i
-  turn = c.before.before.before
+  turn = (goal.at.After-row_terms-row c).At-loop-i
 
   abbrev begun : Start
-  begun = turn.before
+  begun = (goal.at.At-loop-i turn).Start
 
   abbrev rows : List (List ℤ)
   rows = begun.args.terms.now
@@ -71,3 +71,9 @@ returns c =
       all_added (cosine_term s.args.arguments (u s)) s.args.terms.now t.i t.cosine c.loop-i-test.false t.invariant.1.1
           ∙ ap (λ (z : ℤ). total (cosine_term s.args.arguments z) s.args.terms.now) same,
     )
+
+pub overflow_add-sine : goal.overflow_add-sine
+overflow_add-sine c = (sine_next (goal.at.overflow_add-sine c).After-row_terms-row).fit
+
+pub overflow_add-cosine : goal.overflow_add-cosine
+overflow_add-cosine c = (cosine_next (goal.at.overflow_add-cosine c).After-row_terms-row).fit

@@ -18,12 +18,11 @@ mean_small c = subst⁻¹ (λ (m : ℕ). m ≤ full_turn) c.mean_at.ensures (mea
 
 abbrev product : After-cosine_in → Mirror
 product c =
-    let s = c.before.before in
-    arg s.ranges.nutation s.requires.1.1
-    ⊗ gave c.cosine_in.type_inv (c.cosine_in.ensures ∙ ap cosine (any s.ranges.obliquity).same) (cosine_most s.args.obliquity)
+    arg c.ranges.nutation c.requires.1.1
+    ⊗ gave c.cosine_in.type_inv (c.cosine_in.ensures ∙ ap cosine (any c.ranges.obliquity).same) (cosine_most c.args.obliquity)
 
 abbrev sum : After-floor_div → Mirror
-sum c = from_nat (mean_small c.before.before) tt ⊕ floor_gave (kept (product c.before) tt) 1_000_000_000 c.floor_div.type_inv c.floor_div.ensures
+sum c = from_nat (mean_small (goal.at.After-floor_div c).After-mean_at) tt ⊕ floor_gave (kept (product (goal.at.After-floor_div c).After-cosine_in) tt) 1_000_000_000 c.floor_div.type_inv c.floor_div.ensures
 
 pub overflow_cast-result : goal.overflow_cast-result
 overflow_cast-result c = nat_fits (mean_small (goal.at.overflow_cast-result c).After-mean_at) tt
@@ -33,3 +32,9 @@ unfolding apparent
 returns c =
     (kept (sum (goal.at.returns c).After-floor_div) tt).same
     ∙ ap (λ (m : ℕ). pos m +ℤ ⌊ c.args.nutation *ℤ cosine c.args.obliquity ÷ 1_000_000_000 ⌋) c.mean_at.ensures
+
+pub overflow_mul-nutation : goal.overflow_mul-nutation
+overflow_mul-nutation c = fits (product (goal.at.overflow_mul-nutation c).After-cosine_in) tt
+
+pub overflow_add-result : goal.overflow_add-result
+overflow_add-result c = fits (sum (goal.at.overflow_add-result c).After-floor_div) tt

@@ -22,16 +22,16 @@ use Rattle.moon_sums.proofs.moon.moon_at.Goals.{After-arguments-arguments, After
 -- what was worked out first
 module _ (v : After-value_at-a3) where
   abbrev at_a1 : After-value_at-a1
-  at_a1 = v.before.before
+  at_a1 = (goal.at.After-value_at-a3 v).After-value_at-a1
 
   abbrev at_e : After-eccentricity_at-e
-  at_e = at_a1.before
+  at_e = (goal.at.After-value_at-a1 at_a1).After-eccentricity_at-e
 
   abbrev at_arguments : After-arguments-arguments
-  at_arguments = at_e.before
+  at_arguments = (goal.at.After-eccentricity_at-e at_e).After-arguments-arguments
 
   abbrev begun : Start
-  begun = at_arguments.before
+  begun = (goal.at.After-arguments-arguments at_arguments).Start
 
   abbrev n : ℤ
   n = begun.args.t.n
@@ -56,16 +56,16 @@ module _ (v : After-value_at-a3) where
 
 -- that state, from each later one
 abbrev values : After-term_sums-first → After-value_at-a3
-values c = c.before.before.before
+values c = (goal.at.After-term_sums-first c).After-value_at-a3
 
 abbrev values2 : After-term_sums-second → After-value_at-a3
-values2 c = values c.before.before.before
+values2 c = values (goal.at.After-term_sums-second c).After-term_sums-first
 
 abbrev values3 : After-longitude_added-longitude_sum → After-value_at-a3
-values3 c = values2 c.before.before
+values3 c = values2 (goal.at.After-longitude_added-longitude_sum c).After-term_sums-second
 
 abbrev values4 : After-latitude_added-latitude_sum → After-value_at-a3
-values4 c = values3 c.before.before
+values4 c = values3 (goal.at.After-latitude_added-latitude_sum c).After-longitude_added-longitude_sum
 
 -- the rows
 module _ (c : After-term_sums-first) where
@@ -103,32 +103,29 @@ module _ (c : After-term_sums-second) where
 -- the sums with what is added
 longitude_is : (c : After-longitude_added-longitude_sum) → c.longitude_added-longitude_sum.result ≡ longitude_sum (n (values3 c))
 longitude_is c =
-    let rows = c.before.before.before.before.before in
     let v = values3 c in
     c.longitude_added-longitude_sum.ensures
-    ∙ (λ i. longitude_added ((longitude_rows rows).same i) ((at_arguments v).arguments-arguments.ensures i) ((a1 v).same i) ((a2 v).same i))
+    ∙ (λ i. longitude_added ((longitude_rows (goal.at.After-longitude_added-longitude_sum c).After-term_sums-first).same i) ((at_arguments v).arguments-arguments.ensures i) ((a1 v).same i) ((a2 v).same i))
 
 latitude_is : (c : After-latitude_added-latitude_sum) → c.latitude_added-latitude_sum.result ≡ latitude_sum (n (values4 c))
 latitude_is c =
-    let rows = c.before.before.before.before in
     let v = values4 c in
     c.latitude_added-latitude_sum.ensures
-    ∙ (λ i. latitude_added ((latitude_rows rows).same i) ((at_arguments v).arguments-arguments.ensures i) ((a1 v).same i) ((a3 v).same i))
+    ∙ (λ i. latitude_added ((latitude_rows (goal.at.After-latitude_added-latitude_sum c).After-term_sums-second).same i) ((at_arguments v).arguments-arguments.ensures i) ((a1 v).same i) ((a3 v).same i))
 
 abbrev longitude_total : After-floor_div → Mirror
 longitude_total c =
-    let l = c.before.before.before.before in
-    let a = (at_arguments (values3 l)).arguments-arguments in
-    told {r = column a.result 0} (λ i. column (a.ensures i) 0) (value_small L' (n (values3 l))) tt
-    ⊕ floor_gave (some_gave l.longitude_added-longitude_sum.type_inv (longitude_is l)) 1_000_000_000 c.floor_div.type_inv c.floor_div.ensures
+    let a = (at_arguments (values3 (goal.at.After-floor_div c).After-longitude_added-longitude_sum)).arguments-arguments in
+    told {r = column a.result 0} (λ i. column (a.ensures i) 0) (value_small L' (n (values3 (goal.at.After-floor_div c).After-longitude_added-longitude_sum))) tt
+    ⊕ floor_gave (some_gave c.longitude_added-longitude_sum.type_inv (longitude_is (goal.at.After-floor_div c).After-longitude_added-longitude_sum)) 1_000_000_000 c.floor_div.type_inv c.floor_div.ensures
 
 -- the sums are all there before the first floor
 abbrev summed : After-floor_div-3 → After-latitude_added-latitude_sum
-summed c = c.before.before.before.before.before.before
+summed c = (goal.at.After-floor_div-3 c).After-latitude_added-latitude_sum
 
 abbrev metres_total : After-floor_div-3 → Mirror
 metres_total c =
-    let rows = (summed c).before.before.before.before.before.before.before in
+    let rows = (goal.at.After-latitude_added-latitude_sum (summed c)).After-term_sums-first in
     lit (pos 385_000_560) ⊕ floor_gave (distance_rows rows) 100_000_000_000 c.floor_div-3.type_inv c.floor_div-3.ensures
 
 pub term_sums-first-requires : goal.term_sums-first-requires
@@ -162,3 +159,9 @@ returns c =
         ((kept (metres_total (goal.at.returns c).After-floor_div-3) tt).same, moon_near (n v) (near v)),
       ),
     )
+
+pub overflow_add-arguments : goal.overflow_add-arguments
+overflow_add-arguments c = fits (longitude_total (goal.at.overflow_add-arguments c).After-floor_div) tt
+
+pub overflow_add-result : goal.overflow_add-result
+overflow_add-result c = fits (metres_total (goal.at.overflow_add-result c).After-floor_div-3) tt

@@ -16,10 +16,10 @@ use Rattle.moon_sums.proofs.moon.term_sums.Goals.{After-row_terms-row, At-loop-i
 -- a turn of the loop
 module _ (c : After-row_terms-row) where
   abbrev turn : At-loop-i
-  turn = c.before.before.before
+  turn = (goal.at.After-row_terms-row c).At-loop-i
 
   abbrev begun : Start
-  begun = turn.before
+  begun = (goal.at.At-loop-i turn).Start
 
   abbrev rows : List (List ℤ)
   rows = begun.args.terms.now
@@ -56,3 +56,9 @@ returns c =
       all_added (sine_term c.args.arguments c.args.e) c.args.terms.now t.i t.sine c.loop-i-test.false t.invariant.1.0,
       all_added (cosine_term c.args.arguments c.args.e) c.args.terms.now t.i t.cosine c.loop-i-test.false t.invariant.1.1,
     )
+
+pub overflow_add-sine : goal.overflow_add-sine
+overflow_add-sine c = (sine_next (goal.at.overflow_add-sine c).After-row_terms-row).fit
+
+pub overflow_add-cosine : goal.overflow_add-cosine
+overflow_add-cosine c = (cosine_next (goal.at.overflow_add-cosine c).After-row_terms-row).fit

@@ -15,16 +15,16 @@ use Rattle.sum_terms.proofs.instant.value_at.Goals as goal
 use Rattle.sum_terms.proofs.instant.value_at.Goals.{After-floor_div-fourth, After-floor_div-second, After-floor_div-third, After-mul_div-first, After-new, Start}
 
 abbrev from_first : After-mul_div-first → Start
-from_first c = c.before.before.before
+from_first c = (goal.at.After-mul_div-first c).Start
 
 abbrev from_second : After-floor_div-second → After-mul_div-first
-from_second c = c.before.before.before.before.before
+from_second c = (goal.at.After-floor_div-second c).After-mul_div-first
 
 abbrev from_third : After-floor_div-third → After-floor_div-second
-from_third c = c.before.before.before.before.before
+from_third c = (goal.at.After-floor_div-third c).After-floor_div-second
 
 abbrev from_fourth : After-floor_div-fourth → After-floor_div-third
-from_fourth c = c.before.before.before.before.before
+from_fourth c = (goal.at.After-floor_div-fourth c).After-floor_div-third
 
 module _ (s : Start) where
   abbrev p : Polynomial
@@ -81,13 +81,13 @@ module _ (c : After-floor_div-fourth) where
   sum4 = kept sum3 tt ⊕ fourth c
 
 -- the reduced angle
-units_are : (c : After-new) → c.new.result.units ≡ value (p (begun c.before.before.before)) (n (begun c.before.before.before))
+units_are : (c : After-new) → c.new.result.units ≡ value (p (begun (goal.at.After-new c).After-floor_div-fourth)) (n (begun (goal.at.After-new c).After-floor_div-fourth))
 unfolding value
-units_are c = c.new.ensures ∙ ap reduced (kept (sum4 c.before.before.before) tt).same
+units_are c = c.new.ensures ∙ ap reduced (kept (sum4 (goal.at.After-new c).After-floor_div-fourth) tt).same
 
 units_small : (c : After-new) → c.new.result.units ≤ full_turn
 unfolding value
-units_small c = omega (arith, c.new.ensures, reduced_below (kept (sum4 c.before.before.before) tt).machine)
+units_small c = omega (arith, c.new.ensures, reduced_below (kept (sum4 (goal.at.After-new c).After-floor_div-fourth) tt).machine)
 
 pub mul_div-first-requires : goal.mul_div-first-requires
 mul_div-first-requires c = mul_div_asked (c1_mirror (goal.at.mul_div-first-requires c).Start) (instant_told c.requires.1) century tt
@@ -118,3 +118,15 @@ overflow_cast-result c = nat_fits (units_small (goal.at.overflow_cast-result c).
 
 pub returns : goal.returns
 returns c = (from_nat (units_small (goal.at.returns c).After-new) tt).same ∙ ap pos (units_are (goal.at.returns c).After-new)
+
+pub overflow_add-p : goal.overflow_add-p
+overflow_add-p c = fits (sum1 (goal.at.overflow_add-p c).After-floor_div-fourth) tt
+
+pub overflow_add-p-2 : goal.overflow_add-p-2
+overflow_add-p-2 c = fits (sum2 (goal.at.overflow_add-p-2 c).After-floor_div-fourth) tt
+
+pub overflow_add-p-3 : goal.overflow_add-p-3
+overflow_add-p-3 c = fits (sum3 (goal.at.overflow_add-p-3 c).After-floor_div-fourth) tt
+
+pub overflow_add-p-4 : goal.overflow_add-p-4
+overflow_add-p-4 c = fits (sum4 (goal.at.overflow_add-p-4 c).After-floor_div-fourth) tt

@@ -13,13 +13,11 @@ use Rattle.sum_terms.proofs.terms.weighted.Goals.{After-cosine_in, After-sine_in
 
 abbrev by_sine : After-sine_in → Mirror
 by_sine c =
-    let s = c.before in
-    arg s.ranges.first s.requires.1.0 ⊗ gave c.sine_in.type_inv (c.sine_in.ensures ∙ ap sine (any s.ranges.angle).same) (sine_most s.args.angle)
+    arg c.ranges.first c.requires.1.0 ⊗ gave c.sine_in.type_inv (c.sine_in.ensures ∙ ap sine (any c.ranges.angle).same) (sine_most c.args.angle)
 
 abbrev by_cosine : After-cosine_in → Mirror
 by_cosine c =
-    let s = c.before.before.before in
-    arg s.ranges.second s.requires.1.1 ⊗ gave c.cosine_in.type_inv (c.cosine_in.ensures ∙ ap cosine (any s.ranges.angle).same) (cosine_most s.args.angle)
+    arg c.ranges.second c.requires.1.1 ⊗ gave c.cosine_in.type_inv (c.cosine_in.ensures ∙ ap cosine (any c.ranges.angle).same) (cosine_most c.args.angle)
 
 pub returns-then-second-eq0 : goal.returns-then-second-eq0
 returns-then-second-eq0 c = (
@@ -29,3 +27,9 @@ returns-then-second-eq0 c = (
 
 pub returns-else-second-eq0 : goal.returns-else-second-eq0
 returns-else-second-eq0 c = ((kept (by_sine (goal.at.returns-else-second-eq0 c).After-sine_in) tt).same, (kept (by_cosine (goal.at.returns-else-second-eq0 c).After-cosine_in) tt).same)
+
+pub overflow_mul-sine : goal.overflow_mul-sine
+overflow_mul-sine c = fits (by_sine (goal.at.overflow_mul-sine c).After-sine_in) tt
+
+pub overflow_mul-cosine : goal.overflow_mul-cosine
+overflow_mul-cosine c = fits (by_cosine (goal.at.overflow_mul-cosine c).After-cosine_in) tt

@@ -15,7 +15,7 @@ use Rattle.sun_sums.proofs.SunLaws.{group_summing}
 use Rattle.sun_sums.proofs.sun.group.Given as goal
 
 abbrev pub invariant-loop-i : goal.invariant-loop-i
-invariant-loop-i l = (l.i ≤ length l.rows) × Summed (row_value (to_z w64 l.n)) l.rows l.i l.sum
+invariant-loop-i l = (l.i ≤ length l.rows) × Summed (row_value l.n) l.rows l.i l.sum
 
 abbrev pub decreases-loop-i : goal.decreases-loop-i
 decreases-loop-i l = length l.rows - l.i
