@@ -1,5 +1,5 @@
 // The programs where a read or a write fails: they say so, once, and what they wrote is a start of the whole output, with nothing missing in it.
-// Their exit status stays 0: a program of Rattle's cannot set it.
+// Their exit status stays 0.
 use std::env;
 use std::fs::{self, File, OpenOptions};
 use std::io::{self, PipeReader, Read, Write};

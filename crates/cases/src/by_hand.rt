@@ -8,6 +8,7 @@ use sky::answer::{PlaceAnswer, ShownAnswer, place, shown_place};
 use sky::shown::Shown;
 use sky_vectors::geocentric::Body;
 use sky_vectors::station::Point;
+use std::io;
 use strip::air::{air_in, request_air};
 
 // The first of January at 12:00 and a second.
@@ -50,7 +51,7 @@ fn middle_refusal(a: i64, b: i64) -> i64 {
     }
 }
 
-pub fn run_cases() {
+pub fn run_cases(rt: &impl Print) -> io::Result<()> {
     let equator = point_at(0);
     let noon = start_at(2000, 0);
     let refusals = [
@@ -61,12 +62,13 @@ pub fn run_cases() {
         refusal_of(noon, point_at(900_000_001), Air::None),
     ];
     compared(
+        rt,
         b"01: full-turn second-60 year-2101 pole past-pole",
         refusals,
         [15, 4, 1, 0, 8],
         [0; 5],
-    );
-    write(b"\n");
+    )?;
+    write(rt, b"\n")
 }
 
 // All three numbers.
@@ -96,17 +98,18 @@ fn shown_in(air: Air) -> Shown {
 }
 
 // Air that is carried over from an old strip raises as measured air at 1010 mbar and 10 degrees does.
-pub fn whole_path() {
+pub fn whole_path(rt: &impl Print) -> io::Result<()> {
     let seen = shown_in(request_air(air_in(1)));
     let measured = shown_in(Air::Measured(1010.0, 10.0));
     let bare = shown_in(Air::None);
     let unknown = Air::Measured(0.0 / 0.0, 10.0);
-    write(b"requests:");
-    named(b"carried-over", are_same(seen, measured));
-    named(b"raised", is_raised(bare, seen));
+    write(rt, b"requests:")?;
+    named(rt, b"carried-over", are_same(seen, measured))?;
+    named(rt, b"raised", is_raised(bare, seen))?;
     named(
+        rt,
         b"nan-pressure",
         refusal_of(start_at(2000, 0), point_at(0), unknown) == 10,
-    );
-    write(b"\n");
+    )?;
+    write(rt, b"\n")
 }

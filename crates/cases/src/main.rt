@@ -9,10 +9,12 @@ mod report;
 mod steps;
 mod sun_example;
 
-fn main() {
-    by_hand::run_cases();
-    by_hand::whole_path();
-    sun_example::table_a5_1();
-    moon_example::table_a_1_2();
-    eclipses::table_4();
+use std::io;
+
+fn main(rt: HostRuntime) -> io::Result<()> {
+    by_hand::run_cases(&rt)?;
+    by_hand::whole_path(&rt)?;
+    sun_example::table_a5_1(&rt)?;
+    moon_example::table_a_1_2(&rt)?;
+    eclipses::table_4(&rt)
 }

@@ -13,6 +13,7 @@ use request::start::Start;
 use sky::answer::{ShownAnswer, shown_place};
 use sky_vectors::geocentric::Body;
 use sky_vectors::station::Point;
+use std::io;
 
 // Delta-T, in milliseconds.
 const DELTA: i64 = 66_400;
@@ -44,8 +45,9 @@ fn site() -> Point
 }
 
 // L' 118.2130333, D 358.2658977, M 196.845702 and M' 6.110197 degrees, to one of the last printed digit. F is not printed.
-fn mean_arguments() {
+fn mean_arguments(rt: &impl Print) -> io::Result<()> {
     compared(
+        rt,
         b" L' D M M'",
         arguments(moment_of(start()).tt),
         [
@@ -56,44 +58,45 @@ fn mean_arguments() {
             0,
         ],
         [10, 10, 100, 100, Angle::FULL as i64],
-    );
+    )
 }
 
 // λ 118.7934477 and β 0.131573 degrees, Δ 357514.1221 km. The report's sums are exact and 01's are of whole numbers, apart by at most
 // 500 units and 10 metres ("Bounds for demand 3").
-fn centre() {
+fn centre(rt: &impl Print) -> io::Result<()> {
     let moon = moon_at(&table(), moment_of(start()).tt);
     let body = steps_to(Body::Moon, start(), site()).centre;
     compared(
+        rt,
         b" lambda beta Delta",
         [body.longitude, body.latitude, moon.metres, 0, 0],
         [11_879_344_770, 13_157_300, 357_514_122, 0, 0],
         [500, 500, 10, 0, 0],
-    );
+    )
 }
 
 // "zenith angle with uncertainty of ±0.001° and azimuth angle with uncertainty of ±0.003°" (003, abstract).
-fn place(body: Body, azimuth: f64, zenith: f64) {
+fn place(rt: &impl Print, body: Body, azimuth: f64, zenith: f64) -> io::Result<()> {
     let answer = shown_place(start(), body, site(), Air::Measured(1000.0, 11.0));
     match answer {
         ShownAnswer::Seen(shown) => {
-            named(b"azimuth", near(shown.azimuth, azimuth, 0.003));
-            named(b"zenith", near(90.0 - shown.elevation, zenith, 0.001));
+            named(rt, b"azimuth", near(shown.azimuth, azimuth, 0.003))?;
+            named(rt, b"zenith", near(90.0 - shown.elevation, zenith, 0.001))
         }
-        ShownAnswer::Refused(_) => named(b"place", false),
+        ShownAnswer::Refused(_) => named(rt, b"place", false),
     }
 }
 
 // The printed zenith angles, 14.13343 and 14.50514, contradict the table. By its α' 121.202944 and δ' 20.448307, at the sidereal time
 // 323.194838, the Moon's hour angle is 345.353564 and its elevation 75.854774; its air refracts by 0.004187; so its zenith angle is
 // 14.14104. By Ems 0.37481367 and the azimuths the Sun's is 14.51274 then.
-pub fn table_a_1_2() {
-    write(b"003 Table A.1.2:");
-    mean_arguments();
-    centre();
-    write(b" Moon:");
-    place(Body::Moon, 104.19314, 14.14104);
-    write(b" Sun:");
-    place(Body::Sun, 104.38792, 14.51274);
-    write(b"\n");
+pub fn table_a_1_2(rt: &impl Print) -> io::Result<()> {
+    write(rt, b"003 Table A.1.2:")?;
+    mean_arguments(rt)?;
+    centre(rt)?;
+    write(rt, b" Moon:")?;
+    place(rt, Body::Moon, 104.19314, 14.14104)?;
+    write(rt, b" Sun:")?;
+    place(rt, Body::Sun, 104.38792, 14.51274)?;
+    write(rt, b"\n")
 }

@@ -4,6 +4,7 @@ ghost use Rattle.cases.specs.Compare.{near, whole};
 
 use numbers::angle::Angle;
 use numbers::whole::is_between;
+use std::io;
 
 const TURN: i64 = Angle::FULL as i64;
 
@@ -32,28 +33,34 @@ pub fn within(value: i64, expected: i64, tolerance: i64) -> bool
     near(double(value), double(expected), double(tolerance))
 }
 
-pub fn write(words: &[u8]) {
-    io::write_all(1, words);
+pub fn write(rt: &impl Print, words: &[u8]) -> io::Result<()> {
+    rt.write_all(words)
 }
 
 // A value's name, marked where the value does not come out.
-pub fn named(name: &[u8], holds: bool) {
-    write(b" ");
-    write(name);
-    if !holds {
-        write(b" DEVIATES");
+pub fn named(rt: &impl Print, name: &[u8], holds: bool) -> io::Result<()> {
+    write(rt, b" ")?;
+    write(rt, name)?;
+    if holds {
+        return Ok(());
     }
+    write(rt, b" DEVIATES")
 }
 
 // The names of values in whole units, up to five; the rest are zeros. Each that does not come out is told by its number.
-pub fn compared(names: &[u8], values: [i64; 5], expected: [i64; 5], tolerances: [i64; 5]) {
-    write(names);
-    let mut row = 0;
-    while row < 5 {
+pub fn compared(
+    rt: &impl Print,
+    names: &[u8],
+    values: [i64; 5],
+    expected: [i64; 5],
+    tolerances: [i64; 5],
+) -> io::Result<()> {
+    write(rt, names)?;
+    for row in 0..5 {
         if !within(values[row], expected[row], tolerances[row]) {
-            write(b" DEVIATES:");
-            io::print_decimal(1, row as u64 + 1);
+            rt.print(" DEVIATES:")?;
+            rt.print(row + 1)?;
         }
-        row += 1;
     }
+    Ok(())
 }

@@ -14,6 +14,7 @@ use sky::answer::{ShownAnswer, shown_place};
 use sky_vectors::geocentric::{Body, Geocentric};
 use sky_vectors::orientation::Orientation;
 use sky_vectors::station::Point;
+use std::io;
 use sun_sums::sun::{longitude_degrees, sun_at};
 
 // Delta-T, in milliseconds.
@@ -59,19 +60,26 @@ const RADIUS_BOUND: i64 = 500;
 const TURN_LESS_H: i64 = 36_000_000_000 - 1_110_590_000;
 
 // L 24.0182616917 degrees, R 0.9965422974 AU.
-fn sums() {
+fn sums(rt: &impl Print) -> io::Result<()> {
     let earth = sun_at(&table(), moment_of(start()).tt);
     compared(
+        rt,
         b" L R",
         [longitude_degrees(earth.longitude), earth.radius, 0, 0, 0],
         [2_401_826_169, 9_965_422_974, 0, 0, 0],
         [LONGITUDE_BOUND, RADIUS_BOUND, 0, 0, 0],
-    );
+    )
 }
 
 // β 0.0001011219 and λ 204.0085519281 degrees; Δψ -0.00399840, Δε 0.00166657 and ε 23.440465 degrees, to one of the last printed digit.
-fn centre(body: Geocentric, nutation: Nutation, orientation: Orientation) {
+fn centre(
+    rt: &impl Print,
+    body: Geocentric,
+    nutation: Nutation,
+    orientation: Orientation,
+) -> io::Result<()> {
     compared(
+        rt,
         b" beta lambda dpsi deps epsilon",
         [
             body.latitude,
@@ -82,11 +90,11 @@ fn centre(body: Geocentric, nutation: Nutation, orientation: Orientation) {
         ],
         [10_112, 20_400_855_193, -399_840, 166_657, 2_344_046_500],
         [LATITUDE_BOUND, LONGITUDE_BOUND, 1, 1, 100],
-    );
+    )
 }
 
 // α 202.22741, δ -9.31434 and H 11.105900 degrees, to one of the last digit of α: H is ν + σ - α, and no finer. H + α is 213.33331.
-fn equator(body: Geocentric, orientation: Orientation) {
+fn equator(rt: &impl Print, body: Geocentric, orientation: Orientation) -> io::Result<()> {
     let unturned = Orientation {
         sidereal: 0,
         obliquity: orientation.obliquity,
@@ -96,6 +104,7 @@ fn equator(body: Geocentric, orientation: Orientation) {
     let alpha = fixed.azimuth;
     let alpha_turned = turned.azimuth;
     compared(
+        rt,
         b" nu+sigma alpha delta H",
         [
             orientation.sidereal,
@@ -106,29 +115,33 @@ fn equator(body: Geocentric, orientation: Orientation) {
         ],
         [21_333_331_000, 20_222_741_000, 931_434_000, TURN_LESS_H, 0],
         [1000; 5],
-    );
+    )
 }
 
 // Zenith and azimuth angles "with uncertainties of ±0.0003°" (004, abstract). The table's H' and δ' put the Sun 39.87204 degrees high,
 // and its zenith angle has the refraction in it: 0.01634 degree.
-fn place() {
+fn place(rt: &impl Print) -> io::Result<()> {
     let answer = shown_place(start(), Body::Sun, site(), Air::Measured(820.0, 11.0));
     match answer {
         ShownAnswer::Seen(shown) => {
-            named(b"refraction", near(shown.refraction, 0.01634, 0.0003));
-            named(b"azimuth", near(shown.azimuth, 194.34024, 0.0003));
-            named(b"zenith", near(90.0 - shown.elevation, 50.11162, 0.0003));
+            named(rt, b"refraction", near(shown.refraction, 0.01634, 0.0003))?;
+            named(rt, b"azimuth", near(shown.azimuth, 194.34024, 0.0003))?;
+            named(
+                rt,
+                b"zenith",
+                near(90.0 - shown.elevation, 50.11162, 0.0003),
+            )
         }
-        ShownAnswer::Refused(_) => named(b"place", false),
+        ShownAnswer::Refused(_) => named(rt, b"place", false),
     }
 }
 
-pub fn table_a5_1() {
+pub fn table_a5_1(rt: &impl Print) -> io::Result<()> {
     let steps = steps_to(Body::Sun, start(), site());
-    write(b"004 Table A5.1:");
-    sums();
-    centre(steps.centre, steps.nutation, steps.orientation);
-    equator(steps.centre, steps.orientation);
-    place();
-    write(b"\n");
+    write(rt, b"004 Table A5.1:")?;
+    sums(rt)?;
+    centre(rt, steps.centre, steps.nutation, steps.orientation)?;
+    equator(rt, steps.centre, steps.orientation)?;
+    place(rt)?;
+    write(rt, b"\n")
 }

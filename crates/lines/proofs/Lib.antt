@@ -1,2 +1,3 @@
 pub mod AnswerLaws
 pub mod Parts
+pub mod StreamLaws

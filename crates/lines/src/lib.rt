@@ -1,116 +1,116 @@
-// The argument sheet, or `places`, over standard input and output. No contract can say what a call of `read` or `write` moves: `answers` has the contracts of what is
-// handed to be written. A read or a write that fails is told on standard error, and nothing is written after it, so that no line is ever missing between two others.
-// No signal is handled here, so none interrupts a call; a program of Rattle's cannot set its exit status.
+// The argument sheet, `places` or `days`, over standard input and output. `answers` has the contracts of what is handed to be written.
+// A read or a write that fails is told on standard error, and nothing is written after it, so that no line is ever missing between two others.
+// No signal is handled here, so none interrupts a call; the exit status stays 0.
 #![tactic(auto)]
 
 pub mod answers;
 pub mod line;
+pub mod told;
 
-ghost use Rattle.std.specs.Prelude.{◌≤◌};
-ghost use Rattle.lines.specs.Lines.{line_room};
+ghost use Rattle.std.specs.Prelude.{ℕ, List, ◌≡◌, ◌<◌, ◌≤◌, ◌^◌, ◌-◌, length, IfOk, IfSome, OnErr, OnOk};
+ghost use Rattle.std.specs.Io.KnownBytes.{Appends};
+ghost use Rattle.lines.specs.Lines.{header, held, kept, last_answer, line_room, output};
+ghost use Rattle.lines.specs.Streams.{OneRead, StartWritten};
 
 use answers::{answer_chunk, answer_last};
-use libc::{STDIN_FILENO, STDOUT_FILENO};
 use line::{Form, Line, header, no_line};
+use std::io;
+use std::io::{ErrorKind, Input, Read, Write};
 use text::decimal::TEXT_ROOM;
+use told::Failed;
 
 // The most bytes of one read.
 const PART: usize = 512;
 
-// Whether there is more to read; a failed read is no end of the input, and a failed write ends the reading too.
-#[derive(Clone, Copy)]
-enum Input {
-    Open,
-    Ended,
-    Failed,
-}
-
-// The line that is left after a read, and what came of it.
-#[derive(Clone, Copy)]
-struct Read {
-    line: Line,
-    input: Input,
-}
-
-// Writes all of the bytes, or says why not.
-fn write_out(bytes: &[u8]) -> bool {
-    let is_written = io::write_all(STDOUT_FILENO, bytes);
-    if !is_written {
-        os::fail(b"standard output");
+// Writes all of the bytes, or says why not; a start of them is written then.
+fn write_out<W: Write>(writer: &mut W, bytes: &[u8]) -> Result<(), Failed>
+    ensures all { OnOk result (Appends (W.contents writer.old) (W.contents writer.new) bytes.now) }
+    ensures start { OnErr result (StartWritten (W.contents writer.old) (W.contents writer.new) bytes.now) }
+{
+    let mut done = 0;
+    while done < bytes.len() {
+        match writer.write(&bytes[done..]) {
+            Ok(0) => return Err(Failed::Output(io::Error::from(ErrorKind::WriteZero))),
+            Ok(count) => done += count,
+            Err(error) => return Err(Failed::Output(error)),
+        }
     }
-    is_written
+    Ok(())
 }
 
-fn write_header(form: Form) -> bool {
+fn write_header<W: Write>(form: Form, writer: &mut W) -> Result<(), Failed>
+    ensures all { OnOk result (Appends (W.contents writer.old) (W.contents writer.new) (header form)) }
+    ensures start { OnErr result (StartWritten (W.contents writer.old) (W.contents writer.new) (header form)) }
+{
     let text = header(form);
     let bytes = text.bytes;
     let used = text.length;
-    write_out(&bytes[..used])
+    write_out(writer, &bytes[..used])
 }
 
-// Answers the lines that end in the next part of the input.
-fn read_once(form: Form, line: Line) -> Read
+// Answers the lines that end in the next part of the input, and gives the line that is left, or nothing at the end of the input.
+fn read_once<R: Read, W: Write>(
+    form: Form,
+    line: Line,
+    reader: &mut R,
+    writer: &mut W,
+) -> Result<Option<Line>, Failed>
     requires { line.length ≤ line_room }
-    ensures { result.line.length ≤ line_room }
+    ensures within { IfOk result (λ next. IfSome next (λ left. left.length ≤ line_room)) }
+    ensures answered { OneRead form line (R.remaining reader.old) (R.remaining reader.new) (W.contents writer.old) (W.contents writer.new) result }
 {
     let mut part = [0; PART];
-    let got = libc::read(STDIN_FILENO, &mut part);
-    if got < 0 {
-        os::fail(b"standard input");
-        return Read {
-            line,
-            input: Input::Failed,
-        };
+    let count = match reader.read(&mut part) {
+        Ok(count) => count,
+        Err(error) => return Err(Failed::Input(error)),
+    };
+    if count == 0 {
+        return Ok(None);
     }
-    if got == 0 {
-        return Read {
-            line,
-            input: Input::Ended,
-        };
-    }
-    let count = io::count(got, &part);
     let mut out = [0; PART * TEXT_ROOM];
     let turn = answer_chunk(form, line, &part[..count], &mut out);
     let used = turn.used;
-    let is_written = write_out(&out[..used]);
-    let next = turn.line;
-    Read {
-        line: next,
-        input: if is_written {
-            Input::Open
-        } else {
-            Input::Failed
-        },
-    }
+    write_out(writer, &out[..used])?;
+    Ok(Some(turn.line))
 }
 
 // Answers a last line that has no newline.
-fn finish(form: Form, line: Line)
+fn finish<W: Write>(form: Form, line: Line, writer: &mut W) -> Result<(), Failed>
     requires { line.length ≤ line_room }
+    ensures all { OnOk result ((whole : List ℕ) → held line ≡ kept whole → Appends (W.contents writer.old) (W.contents writer.new) (last_answer form whole)) }
+    ensures start { OnErr result ((whole : List ℕ) → held line ≡ kept whole → StartWritten (W.contents writer.old) (W.contents writer.new) (last_answer form whole)) }
 {
     let mut out = [0; TEXT_ROOM];
     let used = answer_last(form, line, &mut out);
-    write_out(&out[..used]);
+    write_out(writer, &out[..used])
 }
 
 // The header, and the answers to the whole input. A proved loop has to end: no input needs this many reads.
-pub fn run(form: Form) {
-    if !write_header(form) {
-        return;
-    }
+// Where a read or a write fails, what is written is a start of that, with nothing missing in it.
+pub fn answer_all<R: Read, W: Write>(
+    form: Form,
+    reader: &mut R,
+    writer: &mut W,
+) -> Result<(), Failed>
+    ensures whole { OnOk result (IfSome (R.remaining reader.old) (λ input. length input < 2 ^ 64 - 1
+        → Appends (W.contents writer.old) (W.contents writer.new) (output form input))) }
+    ensures start { OnErr result (IfSome (R.remaining reader.old) (λ input.
+        StartWritten (W.contents writer.old) (W.contents writer.new) (output form input))) }
+{
+    write_header(form, writer)?;
     let mut line = no_line();
-    let mut reads = u64::MAX;
-    while reads > 0 {
-        let read = read_once(form, line);
-        line = read.line;
-        let input = read.input;
-        match input {
-            Input::Open => reads -= 1,
-            Input::Ended => {
-                finish(form, line);
-                return;
-            }
-            Input::Failed => return,
+    for _ in 0..u64::MAX {
+        match read_once(form, line, reader, writer)? {
+            Some(next) => line = next,
+            None => return finish(form, line, writer),
         }
+    }
+    Ok(())
+}
+
+// From standard input to standard output.
+pub fn run<S: Input + Print + Eprint>(rt: &S, form: Form) {
+    if let Err(failed) = answer_all(form, &mut rt.reader(), &mut io::writer(rt)) {
+        let _ = eprintln!(rt; "{failed}");
     }
 }

@@ -3,6 +3,6 @@
 
 use lines::line::Form;
 
-fn main() {
-    lines::run(Form::Places);
+fn main(rt: HostRuntime) {
+    lines::run(&rt, Form::Places);
 }

@@ -3,6 +3,6 @@
 
 use lines::line::Form;
 
-fn main() {
-    lines::run(Form::Sheet);
+fn main(rt: HostRuntime) {
+    lines::run(&rt, Form::Sheet);
 }

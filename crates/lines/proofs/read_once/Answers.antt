@@ -1,9 +1,6 @@
--- `lines::read_once` is safe and ends, and keeps the line's bound.
-use mathlib.Core.Path.{sym}
-use native.Mathlib.Omega.{arith}
-use lib.Seq.{length-take-le}
-use borrow.Author.Rules.{rules}
+use Rattle.lines.proofs.StreamLaws.{no_part}
 use Rattle.lines.proofs.read_once.Goals as goal
 
-pub slice_bounds-write_out-end : goal.slice_bounds-write_out-end
-slice_bounds-write_out-end c = let k = c.answer_chunk-turn in sym (length-take-le k.result.used k.new.1.1.1.0 (omega arith))
+pub returns-in-Err-clause-answered : goal.returns-in-Err-clause-answered
+returns-in-Err-clause-answered g c =
+    no_part c.args.form c.args.line (g.R.Read.remaining c.args.reader.now) (g.R.Read.remaining c.read.new.self) (g.W.Write.contents c.args.writer.now) c.in-Err.ensures.bytes
