@@ -23,17 +23,17 @@ pub record Summing {A : Type 0} (f : List A → ℤ) (rows : List (List A)) (m :
 pub all_small : {A : Type 0} {f : List A → ℤ} {rows : List (List A)} {m : ℕ} → Summing f rows m → nat_abs (total f rows) ≤ m
 all_small {f} {rows} s = le_trans (total_size f s.size s.sized rows) s.fit
 
--- bits that hold the rows before i
-abbrev pub Summed : {A : Type 0} → (List A → ℤ) → List (List A) → ℕ → ℕ → Type 0
-Summed f rows i bits = to_z w64 bits ≡ total f (take i rows)
+-- a sum that holds the rows before i
+abbrev pub Summed : {A : Type 0} → (List A → ℤ) → List (List A) → ℕ → ℤ → Type 0
+Summed f rows i sum = sum ≡ total f (take i rows)
 
 pub record Next {A : Type 0} (f : List A → ℤ) (rows : List (List A)) (i bits : ℕ) (r : ℤ) : Type 0 where
   pub fit : SFits w64 (to_z w64 bits +ℤ to_z w64 (of_z w64 r))
-  pub is : Summed f rows (i + 1) (of_z w64 (to_z w64 bits +ℤ to_z w64 (of_z w64 r)))
+  pub is : Summed f rows (i + 1) (to_z w64 (of_z w64 (to_z w64 bits +ℤ to_z w64 (of_z w64 r))))
 
 module _
     {A : Type 0} {f : List A → ℤ} {rows : List (List A)} {m : ℕ} (s : Summing f rows m) (t : T (leb m (2 ^ 62)))
-    (i bits : ℕ) {r : ℤ} (inside : i < length rows) (e : Summed f rows i bits) (h : r ≡ f (get_or rows i []))
+    (i bits : ℕ) {r : ℤ} (inside : i < length rows) (e : Summed f rows i (to_z w64 bits)) (h : r ≡ f (get_or rows i []))
   where
     fit_all : count s.size rows ≤ 2 ^ 62
     fit_all = le_trans s.fit (leb→le m (2 ^ 62) t)
@@ -58,5 +58,5 @@ module _
         }
 
 -- where the loop ends, i is the number of rows
-pub all_added : {A : Type 0} (f : List A → ℤ) (rows : List (List A)) (i bits : ℕ) → length rows ≤ i → Summed f rows i bits → to_z w64 bits ≡ total f rows
-all_added f rows i bits h e = e ∙ ap (total f) (take_all rows i h)
+pub all_added : {A : Type 0} (f : List A → ℤ) (rows : List (List A)) (i : ℕ) (sum : ℤ) → length rows ≤ i → Summed f rows i sum → sum ≡ total f rows
+all_added f rows i sum h e = e ∙ ap (total f) (take_all rows i h)

@@ -30,10 +30,10 @@ module _ (c : After-row_value-sum) where
   abbrev inside : turn.loop-i.i < length rows
   inside = c.loop-i-test.true
 
-  sum_next : Next (row_value (n turn.before)) rows turn.loop-i.i turn.loop-i.sum c.row_value-sum.result
+  sum_next : Next (row_value (n turn.before)) rows turn.loop-i.i turn.loop-i.sum-bits c.row_value-sum.result
   sum_next =
       next (group_summing (n turn.before) rows turn.requires.1.1) tt
-      turn.loop-i.i turn.loop-i.sum inside turn.loop-i.invariant.1 c.row_value-sum.ensures
+      turn.loop-i.i turn.loop-i.sum-bits inside turn.loop-i.invariant.1 c.row_value-sum.ensures
 
 pub loop-i-init : goal.loop-i-init
 unfolding total
@@ -47,5 +47,5 @@ pub returns : goal.returns
 returns c =
     let s = (goal.at.returns c).Start in
     let t = c.loop-i in
-    all_added (row_value (n s)) s.args.rows.now t.i t.sum c.loop-i-test.false t.invariant.1
+    all_added (row_value (n s)) s.args.rows.now t.i (to_z w64 t.sum-bits) c.loop-i-test.false t.invariant.1
     ∙ ap (λ (z : ℤ). group z s.args.rows.now) (any s.ranges.n).same
