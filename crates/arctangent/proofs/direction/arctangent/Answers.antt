@@ -10,16 +10,19 @@ use Rattle.arctangent.specs.declared.direction.Direction.TheVariants.{Towards}
 use Rattle.arctangent.proofs.ArctangentLaws.{both_zero, not_both}
 use Rattle.numbers.proofs.Machine.{any, is_zero, not_zero}
 use Rattle.arctangent.proofs.direction.arctangent.Goals as goal
-use Rattle.arctangent.proofs.direction.arctangent.Goals.{Joined-else-y-eq0}
+use Rattle.arctangent.proofs.direction.arctangent.Goals.{Joined-else-y-eq0, else-y-eq0-via-else-y-eq0, else-y-eq0-via-then-y-eq0+else-x-eq0}
 
 -- one of the two is not zero
 directed : (c : Joined-else-y-eq0) → 0 < nat_abs c.args.y + nat_abs c.args.x
 directed c =
-    ⊎_elim (λ w. omega (arith, not_zero c.args.x (eqb-false _ 0 w.1.left))) (λ w. omega (arith, not_zero c.args.y w.left)) c.else-y-eq0.branch
+    elim c.else-y-eq0.branch [
+      else-y-eq0-via-then-y-eq0+else-x-eq0 w ↦ omega (arith, not_zero c.args.x w.if-x-eq0.false)
+    | else-y-eq0-via-else-y-eq0 w ↦ omega (arith, not_zero c.args.y w.if-y-eq0.false)
+    ]
 
 pub returns-then-x-eq0 : goal.returns-then-x-eq0
 returns-then-x-eq0 c =
-    sym (both_zero (is_zero c.ranges.y c.if-y-eq0.true) (is_zero c.ranges.x (eqb-true _ 0 c.if-x-eq0.true)))
+    sym (both_zero (is_zero c.ranges.y c.if-y-eq0.true) (is_zero c.ranges.x c.if-x-eq0.true))
 
 pub angle_of-requires : goal.angle_of-requires
 angle_of-requires c =

@@ -34,7 +34,7 @@ module _ (c₀ : After-sign_of-c) where
   angle = told {r = s.args.s.angle} refl s.requires.4 tt
 
   abbrev c : Mirror
-  c = gave c₀.sign_of-c.ok (c₀.sign_of-c.ensures ∙ ap sign y.same) (sign_small s.args.s.y)
+  c = gave c₀.sign_of-c.type_inv (c₀.sign_of-c.ensures ∙ ap sign y.same) (sign_small s.args.s.y)
 
   t_is : get_or s.args.table.now k (pos 0) ≡ pos (turn_by k)
   t_is = ap (λ (xs : List ℤ). get_or xs k (pos 0)) s.requires.0 ∙ get_or-map pos arctangents k 0
