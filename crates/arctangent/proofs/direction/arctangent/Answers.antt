@@ -1,10 +1,8 @@
 -- `arctangent::direction::arctangent` meets its contract: the test is that of the rule, one number after the other.
-use mathlib.Core.Logic.{⊎_elim}
 use mathlib.Core.Path.{◌∙◌, subst₂, sym}
 use Prim.Native.Nat.{◌+◌, ◌<◌}
 use native.Mathlib.Omega.{arith}
 use lib.IntN.{nat_abs, ℤ}
-use borrow.Author.Tests.{eqb-false, eqb-true}
 use Rattle.arctangent.specs.Arctangent.{angle_of}
 use Rattle.arctangent.specs.declared.direction.Direction.TheVariants.{Towards}
 use Rattle.arctangent.proofs.ArctangentLaws.{both_zero, not_both}
@@ -16,8 +14,8 @@ use Rattle.arctangent.proofs.direction.arctangent.Goals.{Joined-else-y-eq0, else
 directed : (c : Joined-else-y-eq0) → 0 < nat_abs c.args.y + nat_abs c.args.x
 directed c =
     elim c.else-y-eq0.branch [
-      else-y-eq0-via-then-y-eq0+else-x-eq0 w ↦ omega (arith, not_zero c.args.x w.if-x-eq0.false)
-    | else-y-eq0-via-else-y-eq0 w ↦ omega (arith, not_zero c.args.y w.if-y-eq0.false)
+      | else-y-eq0-via-then-y-eq0+else-x-eq0 w ↦ omega (arith, not_zero c.args.x w.if-x-eq0.false)
+      | else-y-eq0-via-else-y-eq0 w ↦ omega (arith, not_zero c.args.y w.if-y-eq0.false)
     ]
 
 pub returns-then-x-eq0 : goal.returns-then-x-eq0

@@ -3,7 +3,6 @@ use mathlib.Core.Path.{◌∙◌, ◌≡◌, ap, refl, subst⁻¹}
 use Prim.Native.Nat.{◌^◌, ◌≤◌}
 use lib.Dec.{lit≤}
 use lib.IntN.{nat_abs}
-use borrow.Author.Rules.{rules}
 use Rattle.number_rules.specs.Angle.{reduced}
 use Rattle.arctangent.specs.Arctangent.{angle_of, start, steps}
 use Rattle.arctangent.specs.declared.direction.Turning.{Turning}

@@ -4,7 +4,6 @@ use Prim.Native.Nat.{◌^◌, ◌≤◌}
 use lib.IntN.{nat_abs, pos, ℤ}
 use mir.Syntax.{w64}
 use mir.Val.{SFits}
-use borrow.Author.Rules.{rules}
 use Rattle.number_rules.specs.Angle.{half_turn}
 use Rattle.arctangent.proofs.ArctangentLaws.{start_left, start_right}
 use Rattle.numbers.proofs.Machine.{Mirror, ◌⊗◌, arg, fits, kept, less, lit, minus, not_less}

@@ -6,7 +6,6 @@ use native.Mathlib.Nat.{le_trans}
 use lib.Dec.{T, ltb}
 use lib.IntN.{pos, ℤ}
 use lib.ListN.{get_or-map, get_or}
-use borrow.Author.Rules.{rules}
 use Rattle.arithmetic.proofs.FloorLaws.{floor_small}
 use Rattle.number_rules.specs.ArctangentTable.{arctangents, turn_by}
 use Rattle.number_rules.proofs.ArctangentTableLaws.{turn_small}

@@ -1,6 +1,6 @@
 -- `arctangent::direction::turned` meets its contract. The invariant: after k turns of the loop the pair is `steps k` of the first one.
 use mathlib.Core.Path.{◌∙◌, ◌≡◌, ap, refl, subst⁻¹}
-use Prim.Native.Nat.{◌-◌, ◌<◌, ◌^◌, ◌≤◌, ℕ}
+use Prim.Native.Nat.{◌<◌, ◌^◌, ◌≤◌, ℕ}
 use native.Mathlib.Omega.{arith}
 use lib.IntN.{nat_abs}
 use Rattle.arctangent.specs.Arctangent.{step, steps}

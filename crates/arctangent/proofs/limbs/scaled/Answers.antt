@@ -5,7 +5,6 @@ use native.Mathlib.Nat.{le_trans}
 use native.Mathlib.Omega.{arith}
 use lib.Dec.{lit<, lit≤}
 use lib.IntN.{◌*ℤ◌, ◌+ℤ◌, nat_abs, pos, ℤ}
-use borrow.Author.Rules.{rules}
 use Rattle.arithmetic.specs.Floor.{◌modulo◌}
 use Rattle.arithmetic.proofs.FloorLaws.{modulo_below}
 use Rattle.arctangent.specs.Limbs.{limb}

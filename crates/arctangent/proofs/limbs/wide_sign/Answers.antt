@@ -1,6 +1,5 @@
 -- `arctangent::limbs::wide_sign` meets its contract.
 use mathlib.Core.Path.{◌∙◌, ap, refl, sym}
-use borrow.Author.Rules.{rules}
 use Rattle.numbers.specs.Whole.{sign}
 use Rattle.arctangent.proofs.LimbLaws.{low_most, sign_of_high, sign_of_low}
 use Rattle.numbers.proofs.Machine.{abs_fits, is_zero, not_zero, passed, told}

@@ -1,7 +1,6 @@
 -- `arctangent::wide_angle::wide_angle` meets its contract.
 use mathlib.Core.Path.{◌∙◌, ◌≡◌, ap, refl, subst⁻¹}
 use Prim.Native.Nat.{◌^◌}
-use borrow.Author.Rules.{rules}
 use Rattle.number_rules.specs.Angle.{reduced}
 use Rattle.arctangent.specs.Arctangent.{angle_of, start, steps}
 use Rattle.arctangent.specs.Limbs.{turning}

@@ -5,7 +5,6 @@ use Prim.Native.Nat.{◌^◌, ◌≤◌}
 use native.Mathlib.Nat.{le_refl, le_trans}
 use lib.Dec.{lit<, lit≤}
 use lib.IntN.{◌*ℤ◌, ◌+ℤ◌, nat_abs, negsuc, neg_ℤ, pos, ℤ}
-use borrow.Author.Rules.{rules}
 use Rattle.arithmetic.proofs.Integers.{solveℤ}
 use Rattle.arithmetic.proofs.Sizes.{abs_neg, mul_bound}
 use Rattle.arithmetic.proofs.Solver.{◌:*◌, ◌:+◌, con, k0, neg', x0}

@@ -7,7 +7,6 @@ use native.Mathlib.Omega.{arith}
 use lib.IntN.{◌*ℤ◌, ◌+ℤ◌, ◌-ℤ◌, nat_abs, neg_ℤ, pos, ℤ}
 use lib.ListN.{get_or-map, get_or}
 use lib.Pow.{pow_mono, pow_pos}
-use borrow.Author.Rules.{rules}
 use Rattle.arithmetic.specs.Floor.{⌊◌÷◌⌋}
 use Rattle.arithmetic.proofs.FloorLaws.{floor_small}
 use Rattle.arithmetic.proofs.Integers.{solveℤ}
