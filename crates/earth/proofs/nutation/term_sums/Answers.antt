@@ -37,15 +37,15 @@ module _ (c : After-row_terms-row) where
   abbrev inside : turn.loop-i.i < length rows
   inside = c.loop-i-test.true
 
-  sine_next : Next (sine_term begun.args.arguments (u begun)) rows turn.loop-i.i turn.loop-i.sine c.row_terms-row.result.sine
+  sine_next : Next (sine_term begun.args.arguments (u begun)) rows turn.loop-i.i turn.loop-i.sine-bits c.row_terms-row.result.sine
   sine_next =
       next (sine_summing begun.args.arguments (u begun) (u_small begun) rows begun.requires.1.1.1) tt
-      turn.loop-i.i turn.loop-i.sine inside turn.loop-i.invariant.1.0 c.row_terms-row.ensures.0
+      turn.loop-i.i turn.loop-i.sine-bits inside turn.loop-i.invariant.1.0 c.row_terms-row.ensures.0
 
-  cosine_next : Next (cosine_term begun.args.arguments (u begun)) rows turn.loop-i.i turn.loop-i.cosine c.row_terms-row.result.cosine
+  cosine_next : Next (cosine_term begun.args.arguments (u begun)) rows turn.loop-i.i turn.loop-i.cosine-bits c.row_terms-row.result.cosine
   cosine_next =
       next (cosine_summing begun.args.arguments (u begun) (u_small begun) rows begun.requires.1.1.1) tt
-      turn.loop-i.i turn.loop-i.cosine inside turn.loop-i.invariant.1.1 c.row_terms-row.ensures.1
+      turn.loop-i.i turn.loop-i.cosine-bits inside turn.loop-i.invariant.1.1 c.row_terms-row.ensures.1
 
 pub loop-i-init : goal.loop-i-init
 unfolding total
@@ -66,9 +66,9 @@ returns c =
     let s = (goal.at.returns c).Start in
     let t = c.loop-i in
     let same = (any s.ranges.u).same in (
-      all_added (sine_term s.args.arguments (u s)) s.args.terms.now t.i t.sine c.loop-i-test.false t.invariant.1.0
+      all_added (sine_term s.args.arguments (u s)) s.args.terms.now t.i (to_z w64 t.sine-bits) c.loop-i-test.false t.invariant.1.0
           ∙ ap (λ (z : ℤ). total (sine_term s.args.arguments z) s.args.terms.now) same,
-      all_added (cosine_term s.args.arguments (u s)) s.args.terms.now t.i t.cosine c.loop-i-test.false t.invariant.1.1
+      all_added (cosine_term s.args.arguments (u s)) s.args.terms.now t.i (to_z w64 t.cosine-bits) c.loop-i-test.false t.invariant.1.1
           ∙ ap (λ (z : ℤ). total (cosine_term s.args.arguments z) s.args.terms.now) same,
     )
 

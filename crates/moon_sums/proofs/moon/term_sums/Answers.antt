@@ -5,6 +5,8 @@ use Prim.Native.Nat.{◌-◌, ◌<◌, ◌≤◌, zero-le}
 use native.Mathlib.Omega.{arith}
 use lib.IntN.{ℤ}
 use lib.ListN.{length}
+use mir.Syntax.{w64}
+use mir.Val.{to_z}
 use borrow.Author.Rules.{rules}
 use Rattle.sum_rules.specs.Moon.{cosine_term, sine_term}
 use Rattle.sum_rules.specs.Table.{total}
@@ -27,15 +29,15 @@ module _ (c : After-row_terms-row) where
   abbrev inside : turn.loop-i.i < length rows
   inside = c.loop-i-test.true
 
-  sine_next : Next (sine_term begun.args.arguments begun.args.e) rows turn.loop-i.i turn.loop-i.sine c.row_terms-row.result.sine
+  sine_next : Next (sine_term begun.args.arguments begun.args.e) rows turn.loop-i.i turn.loop-i.sine-bits c.row_terms-row.result.sine
   sine_next =
       next (sine_summing begun.args.arguments begun.args.e begun.requires.1.1.0 rows begun.requires.1.1.1) tt
-      turn.loop-i.i turn.loop-i.sine inside turn.loop-i.invariant.1.0 c.row_terms-row.ensures.0
+      turn.loop-i.i turn.loop-i.sine-bits inside turn.loop-i.invariant.1.0 c.row_terms-row.ensures.0
 
-  cosine_next : Next (cosine_term begun.args.arguments begun.args.e) rows turn.loop-i.i turn.loop-i.cosine c.row_terms-row.result.cosine
+  cosine_next : Next (cosine_term begun.args.arguments begun.args.e) rows turn.loop-i.i turn.loop-i.cosine-bits c.row_terms-row.result.cosine
   cosine_next =
       next (cosine_summing begun.args.arguments begun.args.e begun.requires.1.1.0 rows begun.requires.1.1.1) tt
-      turn.loop-i.i turn.loop-i.cosine inside turn.loop-i.invariant.1.1 c.row_terms-row.ensures.1
+      turn.loop-i.i turn.loop-i.cosine-bits inside turn.loop-i.invariant.1.1 c.row_terms-row.ensures.1
 
 pub loop-i-init : goal.loop-i-init
 unfolding total
@@ -53,8 +55,8 @@ loop-i-preserved c =
 pub returns : goal.returns
 returns c =
     let t = c.loop-i in (
-      all_added (sine_term c.args.arguments c.args.e) c.args.terms.now t.i t.sine c.loop-i-test.false t.invariant.1.0,
-      all_added (cosine_term c.args.arguments c.args.e) c.args.terms.now t.i t.cosine c.loop-i-test.false t.invariant.1.1,
+      all_added (sine_term c.args.arguments c.args.e) c.args.terms.now t.i (to_z w64 t.sine-bits) c.loop-i-test.false t.invariant.1.0,
+      all_added (cosine_term c.args.arguments c.args.e) c.args.terms.now t.i (to_z w64 t.cosine-bits) c.loop-i-test.false t.invariant.1.1,
     )
 
 pub overflow_add-sine : goal.overflow_add-sine

@@ -22,7 +22,7 @@ n s = to_z w64 (of_z w64 s.args.n)
 -- a turn of the loop
 module _ (c : After-row_value-sum) where
   abbrev turn : At-loop-i
-  turn = c.before.before.before
+  turn = (goal.at.After-row_value-sum c).At-loop-i
 
   abbrev rows : List (List ℕ)
   rows = turn.args.rows.now
@@ -30,9 +30,9 @@ module _ (c : After-row_value-sum) where
   abbrev inside : turn.loop-i.i < length rows
   inside = c.loop-i-test.true
 
-  sum_next : Next (row_value (n turn.before)) rows turn.loop-i.i turn.loop-i.sum-bits c.row_value-sum.result
+  sum_next : Next (row_value (n (goal.at.At-loop-i turn).Start)) rows turn.loop-i.i turn.loop-i.sum-bits c.row_value-sum.result
   sum_next =
-      next (group_summing (n turn.before) rows turn.requires.1.1) tt
+      next (group_summing (n (goal.at.At-loop-i turn).Start) rows turn.requires.1.1) tt
       turn.loop-i.i turn.loop-i.sum-bits inside turn.loop-i.invariant.1 c.row_value-sum.ensures
 
 pub loop-i-init : goal.loop-i-init
@@ -49,3 +49,9 @@ returns c =
     let t = c.loop-i in
     all_added (row_value (n s)) s.args.rows.now t.i (to_z w64 t.sum-bits) c.loop-i-test.false t.invariant.1
     ∙ ap (λ (z : ℤ). group z s.args.rows.now) (any s.ranges.n).same
+
+pub overflow_add-sum : goal.overflow_add-sum
+overflow_add-sum c = (sum_next (goal.at.overflow_add-sum c).After-row_value-sum).fit
+
+pub loop-i-preserved : goal.loop-i-preserved
+loop-i-preserved c = (omega (arith, inside (goal.at.loop-i-preserved c).After-row_value-sum), (sum_next (goal.at.loop-i-preserved c).After-row_value-sum).is)

@@ -18,15 +18,20 @@ n_mirror s = arg s.ranges.n s.requires.1.0
 
 abbrev group_mirror : After-group → Mirror
 group_mirror c =
-    let s = c.before in
-    gave c.group.type_inv (c.group.ensures ∙ ap (λ (z : ℤ). group z s.args.rows.now) (n_mirror s).same)
-    (le_trans (group_most s.args.n s.args.rows.now) s.requires.1.1.0.all)
+    gave c.group.type_inv (c.group.ensures ∙ ap (λ (z : ℤ). group z c.args.rows.now) (n_mirror (goal.at.After-group c).Start).same)
+    (le_trans (group_most c.args.n c.args.rows.now) c.requires.1.1.0.all)
 
 abbrev sum : After-mul_div → Mirror
-sum c = group_mirror c.before ⊕ mul_div_gave (v_mirror c.before.before) (n_mirror c.before.before) millennium c.mul_div.type_inv c.mul_div.ensures
+sum c = group_mirror (goal.at.After-mul_div c).After-group ⊕ mul_div_gave (v_mirror (goal.at.After-mul_div c).Start) (n_mirror (goal.at.After-mul_div c).Start) millennium c.mul_div.type_inv c.mul_div.ensures
 
 pub group-requires : goal.group-requires
 group-requires c = (c.requires.0, (asked (n_mirror (goal.at.group-requires c).Start) tt, c.requires.1.1.0))
 
 pub mul_div-requires : goal.mul_div-requires
 mul_div-requires c = mul_div_asked (v_mirror (goal.at.mul_div-requires c).Start) (n_mirror (goal.at.mul_div-requires c).Start) millennium tt
+
+pub overflow_add-result : goal.overflow_add-result
+overflow_add-result c = fits (sum (goal.at.overflow_add-result c).After-mul_div) tt
+
+pub returns : goal.returns
+returns c = (kept (sum (goal.at.returns c).After-mul_div) tt).same

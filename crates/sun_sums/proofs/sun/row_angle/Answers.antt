@@ -20,7 +20,7 @@ sum c =
     (phase_small c.args.n c.args.c c.requires.0 c.requires.1.1)
 
 left_is : (c : After-floor_mod) → c.floor_mod.result ≡ (pos c.args.b +ℤ phase c.args.n c.args.c) modulo 628_318_531
-left_is c = c.floor_mod.ensures ∙ ap (λ (z : ℤ). z modulo 628_318_531) (kept (sum c.before) tt).same
+left_is c = c.floor_mod.ensures ∙ ap (λ (z : ℤ). z modulo 628_318_531) (kept (sum (goal.at.After-floor_mod c).After-phase) tt).same
 
 left_small : (c : After-floor_mod) → c.floor_mod.result < 628_318_531
 left_small c =
@@ -36,3 +36,6 @@ overflow_mul-result c = record { fits = omega (arith, left_small (goal.at.overfl
 pub returns : goal.returns
 unfolding row_angle
 returns c = ap (λ (r : ℕ). r * 5_729_577_951 / 100_000_000) (left_is (goal.at.returns c).After-floor_mod)
+
+pub overflow_add-b : goal.overflow_add-b
+overflow_add-b c = fits (sum (goal.at.overflow_add-b c).After-phase) tt

@@ -24,22 +24,21 @@ module _ (s : Start) where
   abbrev constant : Mirror
   constant = lit (pos 100) ⊗ from_nat {n = row_A row} small.constant tt
 
-angle_is : (c : After-row_angle) → c.row_angle.result ≡ row_angle c.args.n (row_B (row c.before.before)) (row_C (row c.before.before))
+angle_is : (c : After-row_angle) → c.row_angle.result ≡ row_angle c.args.n (row_B (row (goal.at.After-row_angle c).Start)) (row_C (row (goal.at.After-row_angle c).Start))
 angle_is c =
-    c.row_angle.ensures ∙ ap (λ (z : ℤ). row_angle z (row_B (row c.before.before)) (row_C (row c.before.before)))
+    c.row_angle.ensures ∙ ap (λ (z : ℤ). row_angle z (row_B (row (goal.at.After-row_angle c).Start)) (row_C (row (goal.at.After-row_angle c).Start)))
     (any c.ranges.n).same
 
 angle_small : (c : After-row_angle) → c.row_angle.result ≤ full_turn
 angle_small c =
     subst⁻¹ (λ (a : ℕ). a ≤ full_turn) (angle_is c)
-    (row_angle_small c.args.n (row_B (row c.before.before)) (row_C (row c.before.before)))
+    (row_angle_small c.args.n (row_B (row (goal.at.After-row_angle c).Start)) (row_C (row (goal.at.After-row_angle c).Start)))
 
 abbrev product : After-cosine_in → Mirror
 product c =
-    let s = c.before.before.before in
-    from_nat {n = row_A (row s)} ((small s).moving (above (row_B (row s)) (row_C (row s)) c.if-b-c-eq0.false)) tt
-    ⊗ gave c.cosine_in.type_inv (c.cosine_in.ensures ∙ ap cosine ((from_nat (angle_small c.before) tt).same ∙ ap pos (angle_is c.before)))
-    (cosine_most (pos (row_angle s.args.n (row_B (row s)) (row_C (row s)))))
+    from_nat {n = row_A (row (goal.at.After-cosine_in c).Start)} ((small (goal.at.After-cosine_in c).Start).moving (above (row_B (row (goal.at.After-cosine_in c).Start)) (row_C (row (goal.at.After-cosine_in c).Start)) c.if-b-c-eq0.false)) tt
+    ⊗ gave c.cosine_in.type_inv (c.cosine_in.ensures ∙ ap cosine ((from_nat (angle_small (goal.at.After-cosine_in c).After-row_angle) tt).same ∙ ap pos (angle_is (goal.at.After-cosine_in c).After-row_angle)))
+    (cosine_most (pos (row_angle c.args.n (row_B (row (goal.at.After-cosine_in c).Start)) (row_C (row (goal.at.After-cosine_in c).Start)))))
 
 pub overflow_cast-row_angle : goal.overflow_cast-row_angle
 overflow_cast-row_angle c = nat_fits (angle_small (goal.at.overflow_cast-row_angle c).After-row_angle) tt
@@ -50,3 +49,9 @@ returns-then-b-c-eq0 c = (kept (constant (goal.at.returns-then-b-c-eq0 c).Start)
 pub returns-else-b-c-eq0 : goal.returns-else-b-c-eq0
 unfolding row_value
 returns-else-b-c-eq0 c = (floor_gave (kept (product (goal.at.returns-else-b-c-eq0 c).After-cosine_in) tt) 10_000_000 c.floor_div.type_inv c.floor_div.ensures).same
+
+pub overflow_mul-result : goal.overflow_mul-result
+overflow_mul-result c = fits (constant (goal.at.overflow_mul-result c).Start) tt
+
+pub overflow_mul-a : goal.overflow_mul-a
+overflow_mul-a c = fits (product (goal.at.overflow_mul-a c).After-cosine_in) tt
