@@ -46,13 +46,13 @@ module _ (v : After-value_at-a3) where
   slight = subst⁻¹ Slight at_e.eccentricity_at-e.ensures (eccentricity_slight n near)
 
   abbrev a1 : Mirror
-  a1 = gave at_a1.value_at-a1.ok at_a1.value_at-a1.ensures (value_small A1 n)
+  a1 = gave at_a1.value_at-a1.type_inv at_a1.value_at-a1.ensures (value_small A1 n)
 
   abbrev a2 : Mirror
-  a2 = gave v.value_at-a2.ok v.value_at-a2.ensures (value_small A2 n)
+  a2 = gave v.value_at-a2.type_inv v.value_at-a2.ensures (value_small A2 n)
 
   abbrev a3 : Mirror
-  a3 = gave v.value_at-a3.ok v.value_at-a3.ensures (value_small A3 n)
+  a3 = gave v.value_at-a3.type_inv v.value_at-a3.ensures (value_small A3 n)
 
 -- that state, from each later one
 abbrev values : After-term_sums-first → After-value_at-a3
@@ -155,7 +155,7 @@ returns c =
     let v = values4 l in (
       c.new.ensures ∙ ap reduced (kept (longitude_total (goal.at.returns c).After-floor_div) tt).same,
       (
-        (floor_gave (some_gave l.latitude_added-latitude_sum.ok (latitude_is l)) 1_000_000_000 c.floor_div-2.type_inv c.floor_div-2.ensures).same,
+        (floor_gave (some_gave l.latitude_added-latitude_sum.type_inv (latitude_is l)) 1_000_000_000 c.floor_div-2.type_inv c.floor_div-2.ensures).same,
         ((kept (metres_total (goal.at.returns c).After-floor_div-3) tt).same, moon_near (n v) (near v)),
       ),
     )
