@@ -1,6 +1,5 @@
 -- `calendar::day_count::days_to_month` meets its contract.
 use mathlib.Core.Path.{◌∙◌, sym}
-use borrow.Author.Rules.{rules}
 use borrow.Author.Tests.{le-leb, lt-leb}
 use Rattle.number_rules.proofs.CalendarLaws.{days_to_month_by}
 use Rattle.calendar.proofs.day_count.days_to_month.Goals as goal

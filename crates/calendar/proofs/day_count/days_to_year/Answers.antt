@@ -1,6 +1,5 @@
 -- `calendar::day_count::days_to_year` meets its contract.
 use mathlib.Core.Path.{sym}
-use borrow.Author.Rules.{rules}
 use Rattle.number_rules.proofs.CalendarLaws.{years_by}
 use Rattle.calendar.proofs.day_count.days_to_year.Goals as goal
 

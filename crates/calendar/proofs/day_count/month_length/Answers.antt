@@ -1,6 +1,5 @@
 -- `calendar::day_count::month_length` meets its contract.
 use mathlib.Core.Path.{◌∙◌, sym}
-use borrow.Author.Rules.{rules}
 use borrow.Author.Tests.{eq-eqb, ne_eqb}
 use Rattle.number_rules.proofs.CalendarLaws.{month_length_by}
 use Rattle.calendar.proofs.day_count.month_length.Goals as goal

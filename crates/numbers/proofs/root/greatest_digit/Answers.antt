@@ -1,10 +1,8 @@
 -- `numbers::root::greatest_digit` meets its contract. The invariant: the digit tried is at most nine, and none that fits is greater.
-use mathlib.Core.Logic.{⊎_elim}
 use Prim.Native.Nat.{◌<◌, ◌≤◌, ℕ}
 use native.Mathlib.Omega.{arith}
 use Rattle.numbers.specs.RootDigits.{taking}
 use Rattle.numbers.proofs.RootDigitsLaws.{below, guess_most, taking_most}
-use Rattle.numbers.proofs.root.greatest_digit.Invariants.{Tried}
 use Rattle.numbers.proofs.root.greatest_digit.Goals as goal
 use Rattle.numbers.proofs.root.greatest_digit.Goals.{After-row_known-1, else-guess-lt9, then-guess-lt9}
 

@@ -1,8 +1,5 @@
-use mathlib.Core.Logic.{⊎_elim}
-use Prim.Native.Nat.{◌<◌, ◌≤◌, ℕ}
-use native.Mathlib.Omega.{arith}
+use Prim.Native.Nat.{◌≤◌, ℕ}
 use Rattle.numbers.specs.RootDigits.{taking}
-use Rattle.numbers.proofs.RootDigitsLaws.{below, guess_most, taking_most}
 use Rattle.numbers.proofs.root.greatest_digit.Given as goal
 
 pub record Tried (twentyfold rest digit : ℕ) : Type 0 where

@@ -4,9 +4,9 @@ use mathlib.Core.Path.{◌∙◌, ◌≡◌, refl, sym}
 use Prim.Native.Nat.{◌%◌, ◌+◌, ◌-◌, ◌/◌, ◌<◌, ◌≤◌, ℕ}
 use native.Mathlib.Decide.{dec_lt}
 use native.Mathlib.Omega.{arith}
-use lib.ListN.{get_or, length, length-set, set}
+use lib.ListN.{get_or, length-set, set}
 use lib.Seq.{get_or-set_other, get_or-set_same}
-use Rattle.numbers.specs.RootDigits.{pair, pairs, taken}
+use Rattle.numbers.specs.RootDigits.{pair, pairs}
 use Rattle.numbers.proofs.RootDigitsLaws.{pair_by_pair, shorter}
 use Rattle.numbers.proofs.root.pairs_of.Invariants.{Marked}
 use Rattle.numbers.proofs.root.pairs_of.Goals as goal

@@ -1,12 +1,8 @@
 use mathlib.Core.List.{List}
-use mathlib.Core.Path.{◌∙◌, ◌≡◌, refl, sym}
-use Prim.Native.Nat.{◌%◌, ◌+◌, ◌-◌, ◌/◌, ◌<◌, ◌≤◌, ℕ}
-use native.Mathlib.Decide.{dec_lt}
-use native.Mathlib.Omega.{arith}
-use lib.ListN.{get_or, length, length-set, set}
-use lib.Seq.{get_or-set_other, get_or-set_same}
+use mathlib.Core.Path.{◌≡◌}
+use Prim.Native.Nat.{◌<◌, ◌≤◌, ℕ}
+use lib.ListN.{get_or, length}
 use Rattle.numbers.specs.RootDigits.{pair, pairs, taken}
-use Rattle.numbers.proofs.RootDigitsLaws.{pair_by_pair, shorter}
 use Rattle.numbers.proofs.root.pairs_of.Given as goal
 
 pub record Marked (x : ℕ) (marked : List ℕ) (front k : ℕ) : Type 0 where

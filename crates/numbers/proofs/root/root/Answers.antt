@@ -1,6 +1,6 @@
 -- `numbers::root::root` meets its contract. The invariant: the root so far is the greatest whole number whose square isn't above the first k pairs of x.
 use mathlib.Core.Path.{◌≡◌, refl, sym}
-use Prim.Native.Nat.{◌*◌, ◌+◌, ◌-◌, ◌<◌, ◌≤◌, ℕ}
+use Prim.Native.Nat.{◌*◌, ◌+◌, ◌<◌, ℕ}
 use native.Mathlib.Omega.{arith}
 use lib.ListN.{get_or}
 use Rattle.numbers.specs.RootDigits.{AfterDigit, digits_of, pair, pairs, taken}

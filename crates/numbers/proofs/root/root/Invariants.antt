@@ -1,11 +1,5 @@
-use mathlib.Core.Path.{◌≡◌, refl, sym}
-use Prim.Native.Nat.{◌*◌, ◌+◌, ◌-◌, ◌<◌, ◌≤◌, ℕ}
-use native.Mathlib.Omega.{arith}
-use lib.ListN.{get_or}
-use Rattle.numbers.specs.RootDigits.{AfterDigit, digits_of, pair, pairs, taken}
-use Rattle.numbers.specs.declared.root.SoFar.{SoFar}
-use Rattle.numbers.proofs.RootDigitsLaws.{last_is_root, pair_by_pair, pair_most, taken_most}
-use Rattle.numbers.proofs.RootLaws.{between}
+use Prim.Native.Nat.{◌-◌, ◌≤◌}
+use Rattle.numbers.specs.RootDigits.{AfterDigit, digits_of, pairs, taken}
 use Rattle.numbers.proofs.root.root.Given as goal
 
 abbrev pub invariant-loop-k : goal.invariant-loop-k

@@ -2,7 +2,6 @@
 use mathlib.Core.Path.{◌∙◌, ap, sym}
 use Prim.Native.Nat.{◌%◌, ◌+◌, ℕ}
 use native.Mathlib.Omega.{arith}
-use borrow.Author.Rules.{rules}
 use Rattle.number_rules.specs.Angle.{full_turn, quarter_turn}
 use Rattle.number_rules.specs.Sine.{sine_at}
 use Rattle.numbers.proofs.Machine.{passed}

@@ -1,6 +1,5 @@
 -- `numbers::sine::folded` meets its contract.
 use mathlib.Core.Path.{◌∙◌, sym}
-use borrow.Author.Rules.{rules}
 use Rattle.number_rules.proofs.SineLaws.{fold_high, fold_low}
 use Rattle.numbers.proofs.sine.folded.Goals as goal
 

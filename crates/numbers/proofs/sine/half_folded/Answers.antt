@@ -1,6 +1,5 @@
 -- `numbers::sine::half_folded` meets its contract.
 use mathlib.Core.Path.{sym}
-use borrow.Author.Rules.{rules}
 use Rattle.number_rules.proofs.SineLaws.{half_high, half_low}
 use Rattle.numbers.proofs.sine.half_folded.Goals as goal
 

@@ -1,6 +1,5 @@
 -- `numbers::sine::negated_from_half` meets its contract.
 use mathlib.Core.Path.{◌∙◌, sym}
-use borrow.Author.Rules.{rules}
 use Rattle.numbers.proofs.Machine.{fits, from_nat, kept, minus}
 use Rattle.number_rules.proofs.SineLaws.{sign_high, sign_low}
 use Rattle.numbers.proofs.sine.negated_from_half.Goals as goal

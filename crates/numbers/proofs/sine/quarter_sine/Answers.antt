@@ -5,7 +5,6 @@ use Prim.Native.Nat.{◌%◌, ◌*◌, ◌+◌, ◌-◌, ◌/◌, ◌≤◌, ℕ
 use native.Mathlib.Nat.{mul-le-mul}
 use native.Mathlib.Omega.{arith}
 use lib.ListN.{get_or}
-use borrow.Author.Rules.{rules}
 use Rattle.number_rules.specs.Sine.{entry, quarter_sine, radians, rest_cosine, rest_sine}
 use Rattle.number_rules.proofs.SineSteps.{cosine_fits, cube_most, radians_most, rest_cosine_most, rest_sine_most, sine_fits, square_most}
 use Rattle.number_rules.proofs.SineTableLaws.{entry_small}

@@ -1,6 +1,5 @@
 -- `numbers::sine::sine` meets its contract.
 use mathlib.Core.Path.{◌∙◌, ap}
-use borrow.Author.Rules.{rules}
 use Rattle.number_rules.specs.Sine.{sine}
 use Rattle.numbers.proofs.Machine.{any, passed}
 use Rattle.numbers.proofs.sine.sine.Goals as goal

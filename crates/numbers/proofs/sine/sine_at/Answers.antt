@@ -1,7 +1,6 @@
 -- `numbers::sine::sine_at` meets its contract.
 use mathlib.Core.Path.{◌∙◌, ◌≡◌, ap, subst⁻¹}
 use Prim.Native.Nat.{◌≤◌, ℕ}
-use borrow.Author.Rules.{rules}
 use Rattle.number_rules.specs.Angle.{quarter_turn}
 use Rattle.number_rules.specs.Sine.{fold, negated_from_half, quarter_sine, sine_at}
 use Rattle.numbers.proofs.Machine.{passed}

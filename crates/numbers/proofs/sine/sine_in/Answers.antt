@@ -1,6 +1,5 @@
 -- `numbers::sine::sine_in` meets its contract.
 use mathlib.Core.Path.{◌∙◌, ap}
-use borrow.Author.Rules.{rules}
 use Rattle.number_rules.specs.Sine.{sine, sine_at}
 use Rattle.numbers.proofs.Machine.{passed}
 use Rattle.numbers.proofs.AngleLaws.{new_below, new_is}

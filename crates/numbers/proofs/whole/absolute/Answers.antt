@@ -6,7 +6,6 @@ use lib.IntN.{nat_abs, pos, ℤ}
 use lib.Signed.{mag}
 use mir.Syntax.{w64}
 use mir.Val.{of_z, to_z}
-use borrow.Author.Rules.{rules}
 use Rattle.arithmetic.proofs.FloorLaws.{above_is, below_is}
 use Rattle.numbers.proofs.Machine.{any, less, lit, not_less}
 use Rattle.numbers.proofs.whole.absolute.Goals as goal

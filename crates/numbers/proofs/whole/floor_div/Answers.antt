@@ -8,7 +8,6 @@ use lib.Signed.{mag}
 use mir.Syntax.{w64}
 use mir.Val.{SFits, to_z}
 use mir.ValLaws.{to_z_pos}
-use borrow.Author.Rules.{rules}
 use Rattle.arithmetic.proofs.FloorLaws.{floor_above, floor_below}
 use Rattle.numbers.proofs.Machine.{Mirror, ◌⊖◌, any, fits_as, from_minus_one, kept_as, less, lit, not_less, sfits_nat}
 use Rattle.numbers.proofs.whole.floor_div.Goals as goal

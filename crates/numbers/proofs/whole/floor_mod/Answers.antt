@@ -5,7 +5,6 @@ use native.Mathlib.Nat.{mod-lt}
 use native.Mathlib.Omega.{arith}
 use lib.IntN.{pos, ℤ}
 use lib.Signed.{mag}
-use borrow.Author.Rules.{rules}
 use Rattle.arithmetic.proofs.FloorLaws.{modulo_of_above, modulo_of_below}
 use Rattle.numbers.proofs.Machine.{any, less, lit, not_less}
 use Rattle.numbers.proofs.whole.floor_mod.Goals as goal

@@ -3,7 +3,6 @@ use mathlib.Core.Path.{◌∙◌, ap}
 use Prim.Native.Nat.{ℕ}
 use lib.Dec.{leb}
 use lib.IntN.{nat_abs}
-use borrow.Author.Rules.{rules}
 use Rattle.numbers.proofs.Machine.{any}
 use Rattle.sum_rules.specs.Instant.{furthest}
 use Rattle.sum_terms.proofs.instant.is_within_reach.Goals as goal

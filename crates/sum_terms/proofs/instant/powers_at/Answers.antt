@@ -1,6 +1,5 @@
 -- `sum_terms::instant::powers_at` meets its contract.
 use lib.IntN.{pos}
-use borrow.Author.Rules.{rules}
 use Rattle.numbers.proofs.Machine.{Mirror, ◌⊗◌, arg, fits, floor_gave, kept, lit}
 use Rattle.sum_rules.specs.Instant.{century, p2, p3, p4, u}
 use Rattle.sum_terms.proofs.instant.powers_at.Goals as goal

@@ -1,7 +1,6 @@
 -- `sum_terms::instant::universal_time` meets its contract.
 use Prim.Native.Nat.{◌/◌}
 use lib.IntN.{pos}
-use borrow.Author.Rules.{rules}
 use Rattle.numbers.proofs.Machine.{Mirror, ◌⊕◌, ◌⊖◌, ◌⊗◌, arg, fits, kept, lit}
 use Rattle.sum_rules.specs.Instant.{day}
 use Rattle.sum_terms.proofs.instant.universal_time.Goals as goal

@@ -3,7 +3,6 @@ use mathlib.Core.Path.{◌∙◌, ◌≡◌, ap, refl}
 use Prim.Native.Nat.{◌≤◌}
 use native.Mathlib.Omega.{arith}
 use lib.IntN.{pos, ℤ}
-use borrow.Author.Rules.{rules}
 use Rattle.number_rules.specs.Angle.{full_turn, reduced}
 use Rattle.numbers.proofs.Machine.{Mirror, ◌⊕◌, ◌⊗◌, fits, floor_gave, from_nat, kept, lit, nat_fits, small_floor_gave, told}
 use Rattle.number_rules.proofs.SineLaws.{reduced_below}

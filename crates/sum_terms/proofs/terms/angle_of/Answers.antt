@@ -3,7 +3,6 @@ use mathlib.Core.Path.{refl}
 use Prim.Native.Nat.{ℕ}
 use mir.Syntax.{w32, w64}
 use mir.Val.{SFits, of_z, to_z}
-use borrow.Author.Rules.{rules}
 use Rattle.numbers.proofs.Machine.{Mirror, ◌⊕◌, ◌⊗◌, fits, kept, told}
 use Rattle.sum_rules.specs.Table.{column}
 use Rattle.sum_terms.proofs.NarrowMirror.{narrow, widened}

@@ -2,7 +2,6 @@
 use mathlib.Core.List.{[], ◌∷◌}
 use mathlib.Core.Path.{◌∙◌, ap, sym}
 use lib.IntN.{◌*ℤ◌, ℤ}
-use borrow.Author.Rules.{rules}
 use Rattle.arithmetic.proofs.Integers.{solveℤ}
 use Rattle.arithmetic.proofs.Solver.{◌:*◌, k0, x0}
 use Rattle.number_rules.specs.Sine.{cosine, sine}

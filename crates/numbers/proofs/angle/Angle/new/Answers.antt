@@ -1,7 +1,6 @@
 -- `numbers::angle::Angle::new` meets its contract.
 use mathlib.Core.Path.{◌∙◌, ap}
 use lib.IntN.{ℤ}
-use borrow.Author.Rules.{rules}
 use Rattle.arithmetic.specs.Floor.{◌modulo◌}
 use Rattle.number_rules.specs.Angle.{full_turn, reduced}
 use Rattle.numbers.proofs.Machine.{any}
