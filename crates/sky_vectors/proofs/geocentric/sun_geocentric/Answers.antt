@@ -23,7 +23,7 @@ use Rattle.sky_vectors.proofs.geocentric.sun_geocentric.Goals.{After-floor_div-a
 
 module _ (c : After-sun_at-earth) where
   abbrev s : Start
-  s = c.before
+  s = (goal.at.After-sun_at-earth c).Start
 
   abbrev n : ℤ
   n = s.args.tt.n
@@ -54,7 +54,7 @@ module _ (c : After-sun_at-earth) where
 
 module _ (c : After-longitude_degrees-degrees) where
   abbrev summed₁ : After-sun_at-earth
-  summed₁ = c.before.before
+  summed₁ = (goal.at.After-longitude_degrees-degrees c).After-sun_at-earth
 
   abbrev degrees : Mirror
   degrees =
@@ -65,7 +65,7 @@ module _ (c : After-longitude_degrees-degrees) where
 
 module _ (c : After-latitude_degrees-latitude) where
   abbrev turned : After-longitude_degrees-degrees
-  turned = c.before.before
+  turned = (goal.at.After-latitude_degrees-latitude c).After-longitude_degrees-degrees
 
   abbrev summed₂ : After-sun_at-earth
   summed₂ = summed₁ turned
@@ -77,14 +77,14 @@ module _ (c : After-latitude_degrees-latitude) where
       (latitude_degrees_most (Sun.B (n summed₂)) (B_most (n summed₂) (near summed₂))))
 
 abbrev summed₃ : After-struct_told-3-1 → After-sun_at-earth
-summed₃ c = summed₂ c.before
+summed₃ c = summed₂ (goal.at.After-struct_told-3-1 c).After-latitude_degrees-latitude
 
 module _ (c : After-floor_div-parallax) where
   abbrev aberrated : After-floor_div-aberration
-  aberrated = c.before
+  aberrated = (goal.at.After-floor_div-parallax c).After-floor_div-aberration
 
   abbrev lowered : After-latitude_degrees-latitude
-  lowered = aberrated.before.before
+  lowered = (goal.at.After-floor_div-aberration aberrated).After-latitude_degrees-latitude
 
   abbrev summed : After-sun_at-earth
   summed = summed₂ lowered
@@ -92,7 +92,7 @@ module _ (c : After-floor_div-parallax) where
   abbrev aberration : Mirror
   aberration =
       small_floor_gave (lit (neg_ℤ (pos 5_691_610_000_000_000))) (nat_abs (to_z w64 (of_z w64 summed.sun_at-earth.result.radius)))
-      aberrated.floor_div-aberration.ok aberrated.floor_div-aberration.ensures
+      aberrated.floor_div-aberration.type_inv aberrated.floor_div-aberration.ensures
 
   abbrev opposite : Mirror
   opposite = degrees (turned lowered) ⊕ lit (pos half_turn)

@@ -10,7 +10,7 @@ use Rattle.sky_vectors.proofs.horizon.elevation.Goals.{After-slope, Start}
 
 module _ (c : After-slope) where
   abbrev start : Start
-  start = c.before.before.before
+  start = (goal.at.After-slope c).Start
 
   abbrev up : ℤ
   up = start.args.seen.up
@@ -32,5 +32,4 @@ lowered-requires c = asked (angle (goal.at.lowered-requires c).After-slope) tt
 pub returns : goal.returns
 unfolding elevation
 returns c =
-    let k = (goal.at.returns c).After-lowered in
-    passed c.clamped.type_inv (c.clamped.ensures ∙ ap clamped (passed k.lowered.type_inv (k.lowered.ensures ∙ ap lowered (angle k.before).same)))
+    passed c.clamped.type_inv (c.clamped.ensures ∙ ap clamped (passed c.lowered.type_inv (c.lowered.ensures ∙ ap lowered (angle (goal.at.returns c).After-slope).same)))

@@ -31,10 +31,10 @@ module _ (s : Start) where
 -- the powers of both scales
 module _ (c : After-powers_at-tt) where
   abbrev by_ut : After-powers_at-ut
-  by_ut = c.before.before
+  by_ut = (goal.at.After-powers_at-tt c).After-powers_at-ut
 
   abbrev begun : Start
-  begun = by_ut.before.before
+  begun = (goal.at.After-powers_at-ut by_ut).Start
 
   ut_is : by_ut.powers_at-ut.result ≡ powers (instant begun).ut
   ut_is = by_ut.powers_at-ut.ensures ∙ ap powers (universal begun).same

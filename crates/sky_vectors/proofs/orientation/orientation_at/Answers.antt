@@ -35,14 +35,14 @@ module _ (s : Start) where
 
 module _ (c : After-apparent_at-greenwich) where
   abbrev nodded : After-obliquity_at-obliquity
-  nodded = c.before.before
+  nodded = (goal.at.After-apparent_at-greenwich c).After-obliquity_at-obliquity
 
   abbrev start : Start
-  start = nodded.before.before
+  start = (goal.at.After-obliquity_at-obliquity nodded).Start
 
   obliquity_is : to_z w64 (of_z w64 nodded.obliquity_at-obliquity.result) ≡ obliquity (n start)
   obliquity_is =
-      passed nodded.obliquity_at-obliquity.ok
+      passed nodded.obliquity_at-obliquity.type_inv
       (nodded.obliquity_at-obliquity.ensures ∙ ap (λ (z : ℤ). mean_obliquity (n start) +ℤ z) (Δε_mirror start).same)
 
   abbrev greenwich : Mirror

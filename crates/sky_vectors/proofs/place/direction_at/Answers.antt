@@ -18,7 +18,7 @@ module _ (s : Start) where
 
 module _ (c : After-moment_at-moment) where
   abbrev start : Start
-  start = c.before.before.before
+  start = (goal.at.After-moment_at-moment c).Start
 
   abbrev at : ℤ
   at = start.args.runner.longitude
@@ -31,19 +31,16 @@ moment_at-moment-requires c = let s = (goal.at.moment_at-moment-requires c).Star
 
 pub geocentric_at-centre-requires : goal.geocentric_at-centre-requires
 geocentric_at-centre-requires c =
-    let k = (goal.at.geocentric_at-centre-requires c).After-geocentric_at-arg-1 in
-    ((start k).requires.0, (moment_reached (at k) (moment_is k) (near (start k)), moment_nutation (at k) (moment_is k) (near (start k))))
+    ((start (goal.at.geocentric_at-centre-requires c).After-moment_at-moment).requires.0, (moment_reached (at (goal.at.geocentric_at-centre-requires c).After-moment_at-moment) (moment_is (goal.at.geocentric_at-centre-requires c).After-moment_at-moment) (near (start (goal.at.geocentric_at-centre-requires c).After-moment_at-moment)), moment_nutation (at (goal.at.geocentric_at-centre-requires c).After-moment_at-moment) (moment_is (goal.at.geocentric_at-centre-requires c).After-moment_at-moment) (near (start (goal.at.geocentric_at-centre-requires c).After-moment_at-moment))))
 
 pub from_surface-requires : goal.from_surface-requires
 from_surface-requires c =
-    let k = (goal.at.from_surface-requires c).After-struct_told-2-1 in
-    let s = start k in
-    (s.requires.0, centre_parallax (at k) (moment_is k) (near s) s.args.body c.geocentric_at-centre.ensures, s.requires.1.0.observer_size)
+    let s = start (goal.at.from_surface-requires c).After-moment_at-moment in
+    (s.requires.0, centre_parallax (at (goal.at.from_surface-requires c).After-moment_at-moment) (moment_is (goal.at.from_surface-requires c).After-moment_at-moment) (near s) s.args.body c.geocentric_at-centre.ensures, s.requires.1.0.observer_size)
 
 pub returns : goal.returns
 unfolding direction
 returns c =
-    let k = (goal.at.returns c).After-struct_told-2-1 in
-    let s = start k in
+    let s = start (goal.at.returns c).After-moment_at-moment in
     c.from_surface.ensures
-    ∙ (λ i. from_surface (centre_is (at k) (moment_is k) (near s) s.args.body c.geocentric_at-centre.ensures i) (moment_is k i).orientation s.args.runner.observer)
+    ∙ (λ i. from_surface (centre_is (at (goal.at.returns c).After-moment_at-moment) (moment_is (goal.at.returns c).After-moment_at-moment) (near s) s.args.body c.geocentric_at-centre.ensures i) (moment_is (goal.at.returns c).After-moment_at-moment i).orientation s.args.runner.observer)

@@ -14,28 +14,28 @@ use Rattle.sky_vectors.proofs.place.from_centre.Goals.{After-equatorial, After-s
 -- each sine and cosine is that of the rule
 module _ (c : After-sine_cosine_in-epsilon) where
   abbrev by_sidereal : After-sine_cosine_in-theta
-  by_sidereal = c.before
+  by_sidereal = (goal.at.After-sine_cosine_in-epsilon c).After-sine_cosine_in-theta
 
   abbrev by_latitude : After-sine_cosine_in-t
-  by_latitude = by_sidereal.before
+  by_latitude = (goal.at.After-sine_cosine_in-theta by_sidereal).After-sine_cosine_in-t
 
   abbrev by_longitude : After-sine_cosine_in-l
-  by_longitude = by_latitude.before
+  by_longitude = (goal.at.After-sine_cosine_in-t by_latitude).After-sine_cosine_in-l
 
   abbrev obliquity_read : After-struct_told-4-1
-  obliquity_read = by_longitude.before
+  obliquity_read = (goal.at.After-sine_cosine_in-l by_longitude).After-struct_told-4-1
 
   abbrev sidereal_read : After-struct_told-3-1
-  sidereal_read = obliquity_read.before
+  sidereal_read = (goal.at.After-struct_told-4-1 obliquity_read).After-struct_told-3-1
 
   abbrev latitude_read : After-struct_told-2-1
-  latitude_read = sidereal_read.before
+  latitude_read = (goal.at.After-struct_told-3-1 sidereal_read).After-struct_told-2-1
 
   abbrev longitude_read : After-struct_told-1
-  longitude_read = latitude_read.before
+  longitude_read = (goal.at.After-struct_told-2-1 latitude_read).After-struct_told-1
 
   abbrev start : Start
-  start = longitude_read.before
+  start = (goal.at.After-struct_told-1 longitude_read).Start
 
   l_is : by_longitude.sine_cosine_in-l.result ≡ sine_cosine start.args.body.longitude
   l_is = gave_sine_cosine _ by_longitude.sine_cosine_in-l.ensures ∙ ap sine_cosine (passed longitude_read.type_inv.body.given.0.1 refl)
@@ -63,12 +63,11 @@ module _ (c : After-sine_cosine_in-epsilon) where
 
 -- sizes on the way
 unit_is_small : (c : After-unit_vector) → SmallVector 1_001_000_000 c.unit_vector.result
-unit_is_small c = subst⁻¹ (SmallVector 1_001_000_000) c.unit_vector.ensures (unit_small (l_angle c.before) (t_angle c.before))
+unit_is_small c = subst⁻¹ (SmallVector 1_001_000_000) c.unit_vector.ensures (unit_small (l_angle (goal.at.After-unit_vector c).After-sine_cosine_in-epsilon) (t_angle (goal.at.After-unit_vector c).After-sine_cosine_in-epsilon))
 
 equatorial_is_small : (c : After-equatorial) → SmallVector 1_425_000_000 c.equatorial.result
 equatorial_is_small c =
-    let k = c.before in
-    subst⁻¹ (SmallVector 1_425_000_000) c.equatorial.ensures (equatorial_small (ε_angle k.before) (unit_is_small k))
+    subst⁻¹ (SmallVector 1_425_000_000) c.equatorial.ensures (equatorial_small (ε_angle (goal.at.After-equatorial c).After-sine_cosine_in-epsilon) (unit_is_small (goal.at.After-equatorial c).After-unit_vector))
 
 pub unit_vector-requires : goal.unit_vector-requires
 unit_vector-requires c = (l_angle (goal.at.unit_vector-requires c).After-sine_cosine_in-epsilon, t_angle (goal.at.unit_vector-requires c).After-sine_cosine_in-epsilon)

@@ -21,11 +21,11 @@ module _ (s : Start) where
   height = field s.args.point.height s.requires.1.height_size tt
 
 abbrev start : After-struct_told-2-1 → Start
-start c = c.before.before.before.before
+start c = (goal.at.After-struct_told-2-1 c).Start
 
 module _ (c : After-sine_cosine_in-latitude) where
   abbrev begun : Start
-  begun = start c.before
+  begun = start (goal.at.After-sine_cosine_in-latitude c).After-struct_told-2-1
 
   latitude_is : c.sine_cosine_in-latitude.result ≡ sine_cosine (pos 10 *ℤ begun.args.point.latitude)
   latitude_is = gave_sine_cosine _ c.sine_cosine_in-latitude.ensures ∙ ap sine_cosine (kept (latitude begun) tt).same
