@@ -1,5 +1,5 @@
 -- The middle of two azimuths by its cases.
-use mathlib.Core.Bool.{Bool, ◌&&◌, cond, false, not, true}
+use mathlib.Core.Bool.{Bool, ◌&&◌, cond, false, true}
 use mathlib.Core.Path.{◌∙◌, ◌≡◌, ap, ap₂, refl, subst, sym}
 use Prim.Native.Nat.{◌+◌, ◌-◌, ◌<◌, ℕ}
 use native.Mathlib.Nat.{mod-lt, zero-lt-suc}
@@ -17,19 +17,11 @@ use Rattle.heading.specs.declared.middle.Middle.{Middle}
 use Rattle.heading.specs.declared.middle.Middle.TheVariants.{Azimuth, Refused}
 
 -- what a test of `is_reduced` tells
-pub no_test : {r : Bool} {z x : ℤ} → r ≡ is_reduced z → z ≡ x → not r ≡ true → is_reduced x ≡ false
-no_test {r} e same h = sym (e ∙ ap is_reduced same) ∙ go r h
-  where
-    go : (r : Bool) → not r ≡ true → r ≡ false
-    go true h = sym h
-    go false h = refl
+pub no_test : {r : Bool} {z x : ℤ} → r ≡ is_reduced z → z ≡ x → r ≡ false → is_reduced x ≡ false
+no_test e same h = sym (e ∙ ap is_reduced same) ∙ h
 
-pub yes_test : {r : Bool} {z x : ℤ} → r ≡ is_reduced z → z ≡ x → not r ≡ false → is_reduced x ≡ true
-yes_test {r} e same h = sym (e ∙ ap is_reduced same) ∙ go r h
-  where
-    go : (r : Bool) → not r ≡ false → r ≡ true
-    go true h = refl
-    go false h = sym h
+pub yes_test : {r : Bool} {z x : ℤ} → r ≡ is_reduced z → z ≡ x → r ≡ true → is_reduced x ≡ true
+yes_test e same h = sym (e ∙ ap is_reduced same) ∙ h
 
 pub natural : (x : ℤ) → is_reduced x ≡ true → x ≡ pos (nat_abs x)
 unfolding is_reduced

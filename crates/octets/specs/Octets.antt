@@ -1,4 +1,4 @@
--- Numbers as octets, the highest first, over every width (02, Item 6: "all numbers big_endian").
+-- Numbers as octets, the highest first, over every width (02, Item 6: "all numbers big-endian").
 use Rattle.std.specs.Prelude.{Bool, cond, List, [], ◌++◌, ◌∷◌, ◌%◌, ◌*◌, ◌+◌, ◌-◌, ◌/◌, ◌^◌, suc, zero, ℕ, leb, ltb, negsuc, pos, ℤ, drop, replicate, take}
 use Rattle.text.specs.Line.{all}
 

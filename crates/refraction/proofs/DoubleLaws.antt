@@ -117,7 +117,7 @@ unfolding Ieee.units
 units_most most s q k y v l = go (ltb (q * 2 ^ k) (2 ^ (Ieee.low binary64 + suc (Ieee.emax binary64)))) l
   where
     go : (c : Bool) → T (Ieee.le (cond c (written false q k) (inf false)) y) → AtMost most (cond c (written s q k) (inf s))
-    go true l = odd_most most _ q k _ s y v l
+    go true l = odd_most most (suc (Ieee.prec binary64)) q k (Ieee.low binary64) s y v l
     go false l = absurd ((no_infinity most false y v).0 l)
 
 pub rounds_most : (s : Bool) (most n d : ℕ) → most ≤ 2 ^ 53 → 0 < d → n ≤ most * d → AtMost most (Ieee.round binary64 s n d)
@@ -127,6 +127,8 @@ rounds_most s most n d fits h u =
 
 one_or_more : (most : ℕ) (x : Float) → AtMost most x → T (Ieee.le (nearest 1 1) x) → AtLeast1 x
 unfolding Ieee.round
+one_or_more most nan h l = elim h [ ]
+one_or_more most (inf _) h l = elim h [ ]
 one_or_more most (fin true n d) (bounded h) l = absurd (above_of_le (nearest 1 1) (fin true n d) tt l)
 one_or_more most (fin false n d) (bounded h) l =
     from_one {n = n} {d = d} (omega (arith, le→cross (nearest 1 1) (fin false n d) tt (above_of_le (nearest 1 1) (fin false n d) tt l) l))

@@ -4,7 +4,7 @@ ghost use Rattle.text.specs.Decimal.{Appended, text_room, digits, decimal, padde
 
 use numbers::whole::absolute;
 
-// The most bytes of a text; `text-room` of the specs.
+// The most bytes of a text; `text_room` of the specs.
 pub const TEXT_ROOM: usize = 80;
 
 // A line that is being written: its bytes, and how many are in use.

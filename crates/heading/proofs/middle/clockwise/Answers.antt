@@ -1,6 +1,5 @@
 -- `heading::middle::clockwise` meets its contract.
 use native.Mathlib.Omega.{arith}
-use borrow.Author.Rules.{rules}
 use Rattle.heading.specs.Heading.{clockwise}
 use Rattle.heading.proofs.middle.clockwise.Goals as goal
 

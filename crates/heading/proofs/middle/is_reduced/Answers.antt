@@ -3,7 +3,6 @@ use mathlib.Core.Bool.{Bool, ◌&&◌}
 use mathlib.Core.Path.{◌∙◌, ap, sym}
 use lib.IntN.{pos, ℤ}
 use lib.Signed.{lt_z}
-use borrow.Author.Rules.{rules}
 use Rattle.number_rules.specs.Angle.{full_turn}
 use Rattle.numbers.proofs.Machine.{any, is_le, less, lit, not_le, not_less}
 use Rattle.heading.specs.Heading.{is_reduced}

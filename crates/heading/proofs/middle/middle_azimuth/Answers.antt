@@ -4,7 +4,6 @@ use mathlib.Core.Path.{◌∙◌, ◌≡◌, ap, ap₂, subst, subst⁻¹, sym}
 use Prim.Native.Nat.{◌-◌, ◌<◌, ◌≤◌, ℕ}
 use native.Mathlib.Omega.{arith}
 use lib.IntN.{nat_abs, ℤ}
-use borrow.Author.Rules.{rules}
 use Rattle.number_rules.specs.Angle.{full_turn, half_turn}
 use Rattle.numbers.proofs.Machine.{Mirror, any, to_nat}
 use Rattle.heading.specs.Heading.{clockwise, half_way, is_reduced, middle, middle_of}
@@ -21,7 +20,7 @@ b_mirror s = any s.ranges.b
 -- both azimuths are reduced
 module _ (c : Else-not-is_reduced-2) where
   abbrev s₂ : Start
-  s₂ = c.before.before.before.before
+  s₂ = (goal.at.Else-not-is_reduced-2 c).Start
 
   a_reduced : is_reduced s₂.args.a ≡ true
   a_reduced = yes_test c.is_reduced.ensures (a_mirror s₂).same c.if-not-is_reduced.false
@@ -36,11 +35,11 @@ module _ (c : Else-not-is_reduced-2) where
   b_below = below_turn s₂.args.b b_reduced
 
 -- the arc between them
-arc_is : (c : After-clockwise-arc) → c.clockwise-arc.result ≡ clockwise (nat_abs (s₂ c.before).args.a) (nat_abs (s₂ c.before).args.b)
-arc_is c = c.clockwise-arc.ensures ∙ ap₂ (λ (x y : ℤ). clockwise (nat_abs x) (nat_abs y)) (a_mirror (s₂ c.before)).same (b_mirror (s₂ c.before)).same
+arc_is : (c : After-clockwise-arc) → c.clockwise-arc.result ≡ clockwise (nat_abs (s₂ (goal.at.After-clockwise-arc c).Else-not-is_reduced-2).args.a) (nat_abs (s₂ (goal.at.After-clockwise-arc c).Else-not-is_reduced-2).args.b)
+arc_is c = c.clockwise-arc.ensures ∙ ap₂ (λ (x y : ℤ). clockwise (nat_abs x) (nat_abs y)) (a_mirror (s₂ (goal.at.After-clockwise-arc c).Else-not-is_reduced-2)).same (b_mirror (s₂ (goal.at.After-clockwise-arc c).Else-not-is_reduced-2)).same
 
 arc_below : (c : After-clockwise-arc) → c.clockwise-arc.result < full_turn
-arc_below c = subst⁻¹ (λ (n : ℕ). n < full_turn) (arc_is c) (clockwise_below (nat_abs (s₂ c.before).args.a) (nat_abs (s₂ c.before).args.b))
+arc_below c = subst⁻¹ (λ (n : ℕ). n < full_turn) (arc_is c) (clockwise_below (nat_abs (s₂ (goal.at.After-clockwise-arc c).Else-not-is_reduced-2).args.a) (nat_abs (s₂ (goal.at.After-clockwise-arc c).Else-not-is_reduced-2).args.b))
 
 -- a number as it is handed on
 handed_below : (x : Mirror) → nat_abs x.number < full_turn → nat_abs x.machine < full_turn
@@ -48,13 +47,13 @@ handed_below x h = subst⁻¹ (λ (z : ℤ). nat_abs z < full_turn) x.same h
 
 module _ (c : After-clockwise-arc) where
   abbrev x : ℕ
-  x = nat_abs (s₂ c.before).args.a
+  x = nat_abs (s₂ (goal.at.After-clockwise-arc c).Else-not-is_reduced-2).args.a
 
   abbrev y : ℕ
-  y = nat_abs (s₂ c.before).args.b
+  y = nat_abs (s₂ (goal.at.After-clockwise-arc c).Else-not-is_reduced-2).args.b
 
-  by_arc : middle (s₂ c.before).args.a (s₂ c.before).args.b ≡ middle_of x y
-  by_arc = both_reduced (s₂ c.before).args.a (s₂ c.before).args.b (a_reduced c.before) (b_reduced c.before)
+  by_arc : middle (s₂ (goal.at.After-clockwise-arc c).Else-not-is_reduced-2).args.a (s₂ (goal.at.After-clockwise-arc c).Else-not-is_reduced-2).args.b ≡ middle_of x y
+  by_arc = both_reduced (s₂ (goal.at.After-clockwise-arc c).Else-not-is_reduced-2).args.a (s₂ (goal.at.After-clockwise-arc c).Else-not-is_reduced-2).args.b (a_reduced (goal.at.After-clockwise-arc c).Else-not-is_reduced-2) (b_reduced (goal.at.After-clockwise-arc c).Else-not-is_reduced-2)
 
 pub returns-then-not-is_reduced : goal.returns-then-not-is_reduced
 returns-then-not-is_reduced c =
@@ -90,13 +89,13 @@ returns-then-arc-eq-HALF c = one_middle (sym (by_arc (goal.at.returns-then-arc-e
 pub returns-then-arc-lt-HALF : goal.returns-then-arc-lt-HALF
 returns-then-arc-lt-HALF c =
     let k = (goal.at.returns-then-arc-lt-HALF c).After-clockwise-arc in
-    one_middle ((λ i. record { refusal = 0; azimuth = (c.half_way.ensures ∙ ap₂ half_way (ap nat_abs (a_mirror (s₂ k.before)).same) (arc_is k)) i })
+    one_middle ((λ i. record { refusal = 0; azimuth = (c.half_way.ensures ∙ ap₂ half_way (ap nat_abs (a_mirror (s₂ (goal.at.After-clockwise-arc k).Else-not-is_reduced-2)).same) (arc_is k)) i })
     ∙ sym (by_arc k ∙ ahead (x k) (y k) (subst (λ (n : ℕ). n < half_turn) (arc_is k) c.if-arc-lt-HALF.true)))
 
 pub returns-else-arc-lt-HALF : goal.returns-else-arc-lt-HALF
 returns-else-arc-lt-HALF c =
     let k = (goal.at.returns-else-arc-lt-HALF c).After-clockwise-arc in
-    one_middle ((λ i. record { refusal = 0; azimuth = (c.half_way-else-arc-lt-HALF.ensures ∙ ap₂ (λ (b arc : ℕ). half_way b (full_turn - arc)) (ap nat_abs (b_mirror (s₂ k.before)).same) (arc_is k)) i })
+    one_middle ((λ i. record { refusal = 0; azimuth = (c.half_way-else-arc-lt-HALF.ensures ∙ ap₂ (λ (b arc : ℕ). half_way b (full_turn - arc)) (ap nat_abs (b_mirror (s₂ (goal.at.After-clockwise-arc k).Else-not-is_reduced-2)).same) (arc_is k)) i })
     ∙ sym (by_arc k ∙ behind (x k) (y k) (subst (λ (n : ℕ). half_turn < n) (arc_is k) (above k.clockwise-arc.result c.if-arc-lt-HALF.false c.if-arc-eq-HALF.false))))
   where
     above : (n : ℕ) → half_turn ≤ n → (n ≡ half_turn → ⊥) → half_turn < n

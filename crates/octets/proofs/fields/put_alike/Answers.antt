@@ -1,11 +1,10 @@
 -- `fields::put_alike` meets its contract. The invariant: the fields so far are stored.
 use mathlib.Core.List.{List}
 use mathlib.Core.Path.{◌≡◌, subst, sym}
-use Prim.Native.Nat.{◌-◌, ◌<◌, ◌≤◌, ℕ}
+use Prim.Native.Nat.{◌<◌, ◌≤◌, ℕ}
 use native.Mathlib.Omega.{arith}
-use lib.ListN.{get_or, get_or-replicate, length, length-replicate, take}
+use lib.ListN.{get_or, get_or-replicate, length, length-replicate}
 use lib.Seq.{take_all}
-use borrow.Author.Rules.{rules}
 use Rattle.octets.specs.Octets.{alike, joined}
 use Rattle.octets.specs.Put.{Put}
 use Rattle.octets.proofs.FieldLaws.{field_room, put_field, total_alike}
@@ -23,7 +22,7 @@ module _ (s : Start) where
 -- a turn: its field, and the width of it
 module _ (c : In-loop-field) where
   abbrev s : Start
-  s = c.before.before.before.before
+  s = (goal.at.In-loop-field c).Start
 
   abbrev field : ℕ
   field = c.loop-field.field

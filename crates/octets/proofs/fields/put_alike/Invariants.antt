@@ -1,14 +1,7 @@
-use mathlib.Core.List.{List}
-use mathlib.Core.Path.{◌≡◌, subst, sym}
-use Prim.Native.Nat.{◌-◌, ◌<◌, ◌≤◌, ℕ}
-use native.Mathlib.Omega.{arith}
-use lib.ListN.{get_or, get_or-replicate, length, length-replicate, take}
-use lib.Seq.{take_all}
-use borrow.Author.Rules.{rules}
+use Prim.Native.Nat.{◌-◌, ◌≤◌}
+use lib.ListN.{length, take}
 use Rattle.octets.specs.Octets.{alike, joined}
 use Rattle.octets.specs.Put.{Put}
-use Rattle.octets.proofs.FieldLaws.{field_room, put_field, total_alike}
-use Rattle.octets.proofs.PutLaws.{put_length, put_none}
 use Rattle.octets.proofs.fields.put_alike.Given as goal
 
 abbrev pub invariant-loop-field : goal.invariant-loop-field

@@ -1,11 +1,10 @@
 -- `fields::put_fields` meets its contract. The invariant: the fields so far are stored.
 use mathlib.Core.List.{List}
 use mathlib.Core.Path.{refl, subst}
-use Prim.Native.Nat.{◌-◌, ◌<◌, ◌≤◌, ℕ}
+use Prim.Native.Nat.{◌<◌, ◌≤◌, ℕ}
 use native.Mathlib.Omega.{arith}
-use lib.ListN.{length, take}
+use lib.ListN.{length}
 use lib.Seq.{take_all}
-use borrow.Author.Rules.{rules}
 use Rattle.octets.specs.Octets.{joined}
 use Rattle.octets.specs.Put.{Put}
 use Rattle.octets.proofs.FieldLaws.{field_room, put_field}
@@ -16,7 +15,7 @@ use Rattle.octets.proofs.fields.put_fields.Goals.{In-loop-field, Start}
 -- a turn: its field
 module _ (c : In-loop-field) where
   abbrev s : Start
-  s = c.before.before.before.before.before
+  s = (goal.at.In-loop-field c).Start
 
   abbrev field : ℕ
   field = c.loop-field.field

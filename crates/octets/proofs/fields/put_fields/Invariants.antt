@@ -1,14 +1,7 @@
-use mathlib.Core.List.{List}
-use mathlib.Core.Path.{refl, subst}
-use Prim.Native.Nat.{◌-◌, ◌<◌, ◌≤◌, ℕ}
-use native.Mathlib.Omega.{arith}
+use Prim.Native.Nat.{◌-◌, ◌≤◌}
 use lib.ListN.{length, take}
-use lib.Seq.{take_all}
-use borrow.Author.Rules.{rules}
 use Rattle.octets.specs.Octets.{joined}
 use Rattle.octets.specs.Put.{Put}
-use Rattle.octets.proofs.FieldLaws.{field_room, put_field}
-use Rattle.octets.proofs.PutLaws.{put_length, put_none}
 use Rattle.octets.proofs.fields.put_fields.Given as goal
 
 abbrev pub invariant-loop-field : goal.invariant-loop-field

@@ -1,12 +1,11 @@
 -- `fields::read_fields` meets its contract. The invariant: the fields so far are read, and the place is behind them.
 use mathlib.Core.List.{List, [], ◌++◌, ◌∷◌}
 use mathlib.Core.Path.{◌∙◌, ◌≡◌, ap, refl, sym}
-use Prim.Native.Nat.{◌+◌, ◌-◌, ◌<◌, ◌≤◌, suc, ℕ}
+use Prim.Native.Nat.{◌+◌, ◌<◌, ◌≤◌, suc, ℕ}
 use native.Mathlib.Numerals.{add-one}
 use native.Mathlib.Omega.{arith}
 use lib.ListN.{drop, get_or, length, length-set, set, take}
 use lib.Seq.{take_all, take-suc-set}
-use borrow.Author.Rules.{rules}
 use Rattle.octets.specs.Octets.{number, parted, total}
 use Rattle.octets.proofs.FieldLaws.{narrow_at, parted_next, total_most, total_next}
 use Rattle.octets.proofs.fields.read_fields.Goals as goal

@@ -3,9 +3,8 @@ use mathlib.Core.List.{List}
 use mathlib.Core.Path.{◌∙◌, ◌≡◌, ap, refl, sym}
 use Prim.Native.Nat.{◌%◌, ◌+◌, ◌-◌, ◌/◌, ◌<◌, ◌^◌, ◌≤◌, suc, ℕ}
 use native.Mathlib.Omega.{arith}
-use lib.ListN.{length, length-set, set}
+use lib.ListN.{length-set, set}
 use lib.Seq.{sets}
-use borrow.Author.Rules.{rules}
 use Rattle.octets.specs.Octets.{big_endian}
 use Rattle.octets.proofs.NumberLaws.{big_endian_first, big_endian_length, rest_first, rest_next}
 use Rattle.octets.proofs.PutLaws.{set_before}

@@ -1,13 +1,8 @@
-use mathlib.Core.List.{List}
-use mathlib.Core.Path.{◌∙◌, ◌≡◌, ap, refl, sym}
-use Prim.Native.Nat.{◌%◌, ◌+◌, ◌-◌, ◌/◌, ◌<◌, ◌^◌, ◌≤◌, suc, ℕ}
-use native.Mathlib.Omega.{arith}
-use lib.ListN.{length, length-set, set}
+use mathlib.Core.Path.{◌≡◌}
+use Prim.Native.Nat.{◌+◌, ◌-◌, ◌/◌, ◌^◌, ◌≤◌}
+use lib.ListN.{length}
 use lib.Seq.{sets}
-use borrow.Author.Rules.{rules}
 use Rattle.octets.specs.Octets.{big_endian}
-use Rattle.octets.proofs.NumberLaws.{big_endian_first, big_endian_length, rest_first, rest_next}
-use Rattle.octets.proofs.PutLaws.{set_before}
 use Rattle.octets.proofs.number.put_number.Given as goal
 
 abbrev pub invariant-loop-left : goal.invariant-loop-left

@@ -29,10 +29,7 @@ returns-in-None c = rw c.in-None.is refl
 pub returns-in-Measured : goal.returns-in-Measured
 unfolding air_refusals
 returns-in-Measured c =
-    let by_temperature = (goal.at.returns-in-Measured c).After-unless-by_temperature in
-    let by_pressure = by_temperature.before.before in
-    let known = by_pressure.before.before in
-    rw known.in-Measured.is
+    rw c.in-Measured.is
     (joined (10 unless pressure_passes _ ∷ []) (11 unless temperature_passes _ ∷ []) c.or_else.ensures
-    (alone (by_pressure.unless-by_pressure.ensures ∙ ap (λ (passes : Bool). 10 unless passes) (pressure by_pressure.before)))
-    (alone (by_temperature.unless-by_temperature.ensures ∙ ap (λ (passes : Bool). 11 unless passes) (temperature by_temperature.before))))
+    (alone (c.unless-by_pressure.ensures ∙ ap (λ (passes : Bool). 10 unless passes) (pressure (goal.at.returns-in-Measured c).After-is_between)))
+    (alone (c.unless-by_temperature.ensures ∙ ap (λ (passes : Bool). 11 unless passes) (temperature (goal.at.returns-in-Measured c).After-is_between-in-Measured))))

@@ -1,6 +1,5 @@
 -- `refraction::formula::measured_refraction` meets its contract.
 use mathlib.Core.Path.{◌∙◌, ap}
-use borrow.Author.Rules.{rules}
 use Rattle.numbers.proofs.Machine.{arg, passed}
 use Rattle.numbers.specs.SineCosine.{sine_cosine}
 use Rattle.refraction.specs.Refraction.{formula, measured_refraction, raised}

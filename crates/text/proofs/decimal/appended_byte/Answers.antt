@@ -1,9 +1,8 @@
 -- `text::decimal::appended_byte` meets its contract.
 use mathlib.Core.List.{[], ◌∷◌}
-use mathlib.Core.Path.{◌∙◌, ◌≡◌, refl, sym}
+use mathlib.Core.Path.{◌≡◌, refl}
 use native.Mathlib.Omega.{arith}
-use lib.ListN.{length, length-map}
-use borrow.Author.Rules.{rules}
+use lib.ListN.{length}
 use Rattle.text.specs.Decimal.{◌followed-by◌, text_room}
 use Rattle.text.proofs.DecimalLaws.{appended}
 use Rattle.text.proofs.decimal.appended_byte.Goals as goal
@@ -11,7 +10,7 @@ use Rattle.text.proofs.decimal.appended_byte.Goals.{Start}
 
 -- the array of the struct has its length
 all_bytes : (c : Start) → length c.args.text.bytes ≡ text_room
-all_bytes c = sym (length-map c.args.text.bytes (λ v. v)) ∙ c.well_formed.0.1.1.0.1.0.1
+all_bytes c = c.well_formed.0.1.1.0.1.0.1
 
 pub returns : goal.returns
 unfolding ◌followed-by◌

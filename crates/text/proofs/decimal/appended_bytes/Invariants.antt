@@ -1,13 +1,6 @@
-use mathlib.Core.List.{List, [], ◌∷◌, ◌++◌}
-use mathlib.Core.Path.{◌∙◌, ◌≡◌, ap, subst, sym}
-use Prim.Native.Nat.{◌+◌, ◌-◌, ◌<◌, ◌≤◌, ℕ}
-use native.Mathlib.Numerals.{add-one}
-use native.Mathlib.Omega.{arith}
-use lib.ListN.{get_or, length, take}
-use lib.Seq.{length-take-le, take_all, take-suc}
-use borrow.Author.Rules.{rules}
+use Prim.Native.Nat.{◌-◌, ◌≤◌}
+use lib.ListN.{length, take}
 use Rattle.text.specs.Decimal.{Appended}
-use Rattle.text.proofs.DecimalLaws.{appended_length, appended_none, appended_twice}
 use Rattle.text.proofs.decimal.appended_bytes.Given as goal
 
 abbrev pub invariant-loop-at : goal.invariant-loop-at

@@ -4,7 +4,6 @@ use mathlib.Core.Path.{◌∙◌, ◌≡◌, ap, subst, sym}
 use Prim.Native.Nat.{ℕ}
 use native.Mathlib.Omega.{arith}
 use lib.IntN.{nat_abs, pos}
-use borrow.Author.Rules.{rules}
 use Rattle.numbers.proofs.Machine.{any, less, lit, not_less}
 use Rattle.text.specs.Decimal.{Appended, with_point}
 use Rattle.text.specs.Line.{minus}

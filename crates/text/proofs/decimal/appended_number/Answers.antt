@@ -6,7 +6,6 @@ use native.Mathlib.Omega.{arith}
 use lib.IntN.{nat_abs, pos}
 use lib.ListN.{length}
 use lib.Signed.{nat_abs-le}
-use borrow.Author.Rules.{rules}
 use Rattle.text.specs.Line.{minus}
 use Rattle.numbers.proofs.Machine.{any, less, lit, not_less}
 use Rattle.text.specs.Decimal.{Appended, digits}

@@ -20,8 +20,7 @@ appended_byte-requires c = omega (arith, c.requires, whole_few (goal.at.appended
 
 pub appended_padded-requires : goal.appended_padded-requires
 appended_padded-requires c =
-    let k = (goal.at.appended_padded-requires c).After-appended_digits-whole in
-    omega (arith, k.requires, whole_few k.before, appended_length k.appended_digits-whole.ensures, appended_length c.appended_byte.ensures)
+    omega (arith, c.requires, whole_few (goal.at.appended_padded-requires c).Start, appended_length c.appended_digits-whole.ensures, appended_length c.appended_byte.ensures)
 
 pub returns : goal.returns
 unfolding with_point

@@ -1,11 +1,7 @@
-use mathlib.Core.Path.{◌∙◌, ◌≡◌, refl, sym}
+use mathlib.Core.Path.{◌≡◌}
 use Prim.Native.Nat.{◌-◌, ◌≤◌}
-use native.Mathlib.Omega.{arith}
 use lib.ListN.{drop, length}
-use borrow.Author.Tests.{not-false, not-true}
-use borrow.Author.Rules.{rules}
 use Rattle.text.specs.Line.{all, is_digit}
-use Rattle.text.proofs.LineLaws.{all_fails, all_goes_on, all_over}
 use Rattle.text.proofs.line.are_digits.Given as goal
 
 abbrev pub invariant-loop-at : goal.invariant-loop-at

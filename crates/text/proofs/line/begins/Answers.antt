@@ -1,10 +1,8 @@
 -- `text::line::begins` meets its contract. The invariant: what is left decides.
-use mathlib.Core.Path.{◌∙◌, ◌≡◌, refl, sym}
-use Prim.Native.Nat.{◌-◌, ◌<◌, ◌≤◌}
+use mathlib.Core.Path.{◌∙◌, refl, sym}
+use Prim.Native.Nat.{◌<◌}
 use native.Mathlib.Omega.{arith}
-use lib.ListN.{drop, length}
-use borrow.Author.Rules.{rules}
-use Rattle.text.specs.Line.{begins}
+use lib.ListN.{length}
 use Rattle.text.proofs.LineLaws.{begins_fails, begins_goes_on, begins_over, begins_short}
 use Rattle.text.proofs.line.begins.Goals as goal
 

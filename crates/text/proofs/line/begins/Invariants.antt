@@ -1,10 +1,7 @@
-use mathlib.Core.Path.{◌∙◌, ◌≡◌, refl, sym}
-use Prim.Native.Nat.{◌-◌, ◌<◌, ◌≤◌}
-use native.Mathlib.Omega.{arith}
+use mathlib.Core.Path.{◌≡◌}
+use Prim.Native.Nat.{◌-◌, ◌≤◌}
 use lib.ListN.{drop, length}
-use borrow.Author.Rules.{rules}
 use Rattle.text.specs.Line.{begins}
-use Rattle.text.proofs.LineLaws.{begins_fails, begins_goes_on, begins_over, begins_short}
 use Rattle.text.proofs.line.begins.Given as goal
 
 abbrev pub invariant-loop-at : goal.invariant-loop-at

@@ -1,7 +1,6 @@
 -- `text::line::is_natural` meets its contract.
 use mathlib.Core.Path.{◌∙◌}
 use native.Mathlib.Omega.{arith}
-use borrow.Author.Rules.{rules}
 use Rattle.text.proofs.LineLaws.{right_length, too_long, too_short}
 use Rattle.text.proofs.line.is_natural.Goals as goal
 

@@ -1,5 +1,4 @@
 -- `text::line::is_negative` meets its contract.
-use borrow.Author.Rules.{rules}
 use Rattle.text.proofs.LineLaws.{no_sign, sign_here}
 use Rattle.text.proofs.line.is_negative.Goals as goal
 

@@ -1,7 +1,6 @@
 -- `text::line::is_number` meets its contract.
 use mathlib.Core.Bool.{true}
 use mathlib.Core.Path.{◌∙◌, ◌≡◌, ap, sym}
-use borrow.Author.Rules.{rules}
 use Rattle.text.specs.Line.{is_natural, is_negative}
 use Rattle.text.proofs.LineLaws.{number_bare, number_behind, sign_counts, to_end}
 use Rattle.text.proofs.line.is_number.Goals as goal

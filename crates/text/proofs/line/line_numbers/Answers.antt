@@ -6,18 +6,16 @@ use native.Mathlib.Omega.{arith}
 use lib.ListN.{drop, length, take}
 use mir.Syntax.{w64}
 use mir.Val.{of_z, to_z}
-use borrow.Author.Rules.{rules}
-use borrow.Author.Tests.{not-false, not-true}
 use Rattle.numbers.proofs.Machine.{passed}
 use Rattle.text.specs.Line.{answer, is_number, value, word_length}
 use Rattle.text.proofs.LineLaws.{number_wider, to_end}
-use Rattle.text.proofs.Reading.{Reading, all_read, begun, no_number, one_more, too_few, too_many}
+use Rattle.text.proofs.Reading.{all_read, begun, no_number, one_more, too_few, too_many}
 use Rattle.text.proofs.WordLaws.{end_found, end_inside, word_at, word_end, word_found}
 use Rattle.text.proofs.line.line_numbers.Goals as goal
 use Rattle.text.proofs.line.line_numbers.Goals.{After-is_number, After-word_length, At-loop-found}
 
 abbrev loop_of : After-word_length → At-loop-found
-loop_of c = c.before.before.before.before
+loop_of c = (goal.at.After-word_length c).At-loop-found
 
 -- the word that the turn is at
 module _ (c : After-word_length) where
@@ -45,8 +43,8 @@ module _ (c : After-word_length) where
   word_is : take (at + c.word_length.result - at) (drop at line) ≡ word_at line at
   word_is = word_found line at inside c.word_length.result length_is
 
-word_tested : (c : After-is_number) → c.is_number.result ≡ is_number (most c.before.before) (word_at (line c.before.before) (at c.before.before))
-word_tested c = c.is_number.ensures ∙ ap (is_number (most c.before.before)) (word_is c.before.before)
+word_tested : (c : After-is_number) → c.is_number.result ≡ is_number (most (goal.at.After-is_number c).After-word_length) (word_at (line (goal.at.After-is_number c).After-word_length) (at (goal.at.After-is_number c).After-word_length))
+word_tested c = c.is_number.ensures ∙ ap (is_number (most (goal.at.After-is_number c).After-word_length)) (word_is (goal.at.After-is_number c).After-word_length)
 
 pub loop-found-init : goal.loop-found-init
 loop-found-init c = begun c.args.line.now c.args.start c.args.count c.args.most c.requires.0
@@ -64,7 +62,7 @@ pub returns-then-not-is_number : goal.returns-then-not-is_number
 returns-then-not-is_number c =
     let w = (goal.at.returns-then-not-is_number c).After-word_length in
     c.no_numbers-then-not-is_number.ensures
-    ∙ ap answer (no_number (loop_of w).loop-found.invariant w.if-at-line.false (sym (word_tested (goal.at.returns-then-not-is_number c).After-is_number) ∙ not-true c.is_number.result c.if-not-is_number.true))
+    ∙ ap answer (no_number (loop_of w).loop-found.invariant w.if-at-line.false (sym (word_tested (goal.at.returns-then-not-is_number c).After-is_number) ∙ c.if-not-is_number.true))
 
 pub slice_bounds-value-end : goal.slice_bounds-value-end
 slice_bounds-value-end c = ends (goal.at.slice_bounds-value-end c).After-word_length
@@ -72,8 +70,8 @@ slice_bounds-value-end c = ends (goal.at.slice_bounds-value-end c).After-word_le
 pub value-requires : goal.value-requires
 value-requires c =
     let w = (goal.at.value-requires c).After-word_length in
-    let s = (loop_of w).before.before in
-    number_wider (most w) 10 s.requires.1.1 _ (sym c.is_number.ensures ∙ not-false c.is_number.result c.if-not-is_number.false)
+    let s = loop_of w in
+    number_wider (most w) 10 s.requires.1.1 _ (sym c.is_number.ensures ∙ c.if-not-is_number.false)
 
 pub overflow_add-at : goal.overflow_add-at
 overflow_add-at c =
@@ -83,10 +81,10 @@ overflow_add-at c =
 pub loop-found-preserved : goal.loop-found-preserved
 loop-found-preserved c =
     let t = (goal.at.loop-found-preserved c).After-is_number in
-    let w = t.before.before in
+    let w = (goal.at.After-is_number t).After-word_length in
     let l = loop_of w in
     rw (end_is w)
-    (one_more l.loop-found.invariant w.if-at-line.false (sym (word_tested t) ∙ not-false t.is_number.result c.if-not-is_number.false) w.loop-found-test.true
+    (one_more l.loop-found.invariant w.if-at-line.false (sym (word_tested t) ∙ c.if-not-is_number.false) w.loop-found-test.true
     l.requires.1.0 (to_z w64 (of_z w64 c.value.result)) (passed c.value.type_inv (c.value.ensures ∙ ap value (word_is w))))
 
 pub returns-then-at-line-2 : goal.returns-then-at-line-2

@@ -5,8 +5,7 @@ use mathlib.Core.List.{List}
 use Prim.Native.Nat.{◌*◌, ◌+◌, ◌-◌, ◌<◌, ◌≤◌, ℕ}
 use native.Mathlib.Omega.{arith}
 use lib.ListN.{drop, get_or, length}
-use borrow.Author.Rules.{rules}
-use Rattle.text.specs.Line.{all, is_digit, is_natural, natural, value_after}
+use Rattle.text.specs.Line.{is_digit, is_natural}
 use Rattle.text.proofs.LineLaws.{all_digits, digit_least, digit_most, natural_below, passes_after, passes_here, value_at, value_grows, value_over}
 use Rattle.text.proofs.line.natural.Invariants.{Partly}
 use Rattle.text.proofs.line.natural.Goals as goal

@@ -1,12 +1,9 @@
-use mathlib.Core.Path.{◌∙◌, ◌≡◌, refl, sym}
+use mathlib.Core.Path.{◌≡◌}
 use mathlib.Core.Bool.{true}
 use mathlib.Core.List.{List}
-use Prim.Native.Nat.{◌*◌, ◌+◌, ◌-◌, ◌<◌, ◌≤◌, ℕ}
-use native.Mathlib.Omega.{arith}
-use lib.ListN.{drop, get_or, length}
-use borrow.Author.Rules.{rules}
-use Rattle.text.specs.Line.{all, is_digit, is_natural, natural, value_after}
-use Rattle.text.proofs.LineLaws.{all_digits, digit_least, digit_most, natural_below, passes_after, passes_here, value_at, value_grows, value_over}
+use Prim.Native.Nat.{◌-◌, ◌≤◌, ℕ}
+use lib.ListN.{drop, length}
+use Rattle.text.specs.Line.{all, is_digit, natural, value_after}
 use Rattle.text.proofs.line.natural.Given as goal
 
 pub record Partly (word : List ℕ) (value i : ℕ) : Type 0 where

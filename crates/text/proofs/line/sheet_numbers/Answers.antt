@@ -1,7 +1,6 @@
 -- `text::line::sheet_numbers` meets its contract.
 use mathlib.Core.Path.{◌∙◌, ap, sym}
 use native.Mathlib.Omega.{arith}
-use borrow.Author.Rules.{rules}
 use Rattle.text.specs.Line.{answer}
 use Rattle.text.proofs.LineLaws.{no_longer, too_long_line}
 use Rattle.text.proofs.line.sheet_numbers.Goals as goal

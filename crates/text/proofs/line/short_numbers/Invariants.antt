@@ -1,14 +1,5 @@
-use mathlib.Core.List.{List}
-use mathlib.Core.Path.{◌∙◌, ◌≡◌, ap, sym}
-use Prim.Native.Nat.{◌+◌, ◌-◌, ◌≤◌, zero-le, ℕ}
-use native.Mathlib.Omega.{arith}
-use lib.ListN.{drop, length, take}
-use borrow.Author.Rules.{rules}
-use borrow.Author.Tests.{not-false, not-true}
-use Rattle.text.specs.Line.{is_number, word_length}
-use Rattle.text.proofs.LineLaws.{to_end}
-use Rattle.text.proofs.Reading.{Passing, all_passed, no_more, not_short, pass, set_out}
-use Rattle.text.proofs.WordLaws.{end_found, end_inside, word_at, word_end, word_found}
+use Prim.Native.Nat.{◌-◌, ◌≤◌}
+use Rattle.text.proofs.Reading.{Passing}
 use Rattle.text.proofs.line.short_numbers.Given as goal
 
 abbrev pub invariant-loop-found : goal.invariant-loop-found

@@ -5,7 +5,6 @@ use Prim.Native.Nat.{◌≤◌, ℕ}
 use native.Mathlib.Omega.{arith}
 use lib.IntN.{neg_ℤ, pos}
 use lib.ListN.{drop}
-use borrow.Author.Rules.{rules}
 use Rattle.numbers.proofs.Machine.{Mirror, fits, from_nat, kept, minus, nat_fits}
 use Rattle.text.specs.Line.{is_natural, is_negative, natural}
 use Rattle.text.proofs.LineLaws.{natural_below, number_bare, number_behind, sign_counts, to_end, value_bare, value_behind}
@@ -24,7 +23,7 @@ module _ (c : After-natural) where
   behind_is = c.natural.ensures ∙ ap natural (to_end c.args.word.now 1)
 
   behind_most : c.natural.result ≤ 10_000_000_000
-  behind_most = omega (arith, behind_is, natural_below (drop 1 c.args.word.now) (natural_behind c.before.before))
+  behind_most = omega (arith, behind_is, natural_below (drop 1 c.args.word.now) (natural_behind (goal.at.After-natural c).Then-is_negative))
 
   abbrev behind : Mirror
   behind = from_nat behind_most tt
@@ -38,7 +37,7 @@ natural_bare c = sym (number_bare c.args.word.now (no_sign c) 10) ∙ c.requires
 
 module _ (c : After-natural-else-is_negative) where
   bare_most : c.natural-else-is_negative.result ≤ 10_000_000_000
-  bare_most = omega (arith, c.natural-else-is_negative.ensures, natural_below c.args.word.now (natural_bare c.before))
+  bare_most = omega (arith, c.natural-else-is_negative.ensures, natural_below c.args.word.now (natural_bare (goal.at.After-natural-else-is_negative c).Else-is_negative))
 
   abbrev bare : Mirror
   bare = from_nat bare_most tt

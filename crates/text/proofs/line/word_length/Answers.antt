@@ -1,11 +1,8 @@
 -- `text::line::word_length` meets its contract. The invariant: the word is `at` bytes longer than what is left of it.
-use mathlib.Core.Path.{◌≡◌, sym}
-use Prim.Native.Nat.{◌+◌, ◌-◌, ◌≤◌}
+use mathlib.Core.Path.{sym}
 use native.Mathlib.Nat.{zero-add}
 use native.Mathlib.Omega.{arith}
-use lib.ListN.{drop, length}
 use borrow.Author.Rules.{rules}
-use Rattle.text.specs.Line.{word_length}
 use Rattle.text.proofs.LineLaws.{word_ends, word_goes_on, word_over}
 use Rattle.text.proofs.line.word_length.Goals as goal
 

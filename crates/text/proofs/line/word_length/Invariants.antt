@@ -1,11 +1,7 @@
-use mathlib.Core.Path.{◌≡◌, sym}
+use mathlib.Core.Path.{◌≡◌}
 use Prim.Native.Nat.{◌+◌, ◌-◌, ◌≤◌}
-use native.Mathlib.Nat.{zero-add}
-use native.Mathlib.Omega.{arith}
 use lib.ListN.{drop, length}
-use borrow.Author.Rules.{rules}
 use Rattle.text.specs.Line.{word_length}
-use Rattle.text.proofs.LineLaws.{word_ends, word_goes_on, word_over}
 use Rattle.text.proofs.line.word_length.Given as goal
 
 abbrev pub invariant-loop-at : goal.invariant-loop-at
