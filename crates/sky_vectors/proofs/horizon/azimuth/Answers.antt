@@ -12,7 +12,7 @@ module _ (k : After-struct_told-2-1) where
   east = some_gave {r = k.args.seen.east} k.struct_told-2-1.given.1.1.0.1 refl
 
   abbrev north : Mirror
-  north = some_gave {r = k.args.seen.north} k.type_inv.seen.given.1.0.1 refl
+  north = some_gave {r = k.args.seen.north} k.struct_told-1.given.1.0.1 refl
 
 pub returns : goal.returns
 unfolding azimuth

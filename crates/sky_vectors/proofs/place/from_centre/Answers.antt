@@ -38,13 +38,13 @@ module _ (c : After-sine_cosine_in-epsilon) where
   start = (goal.at.After-struct_told-1 longitude_read).Start
 
   l_is : by_longitude.sine_cosine_in-l.result ≡ sine_cosine start.args.body.longitude
-  l_is = gave_sine_cosine _ by_longitude.sine_cosine_in-l.ensures ∙ ap sine_cosine (passed longitude_read.type_inv.body.given.0.1 refl)
+  l_is = gave_sine_cosine _ by_longitude.sine_cosine_in-l.ensures ∙ ap sine_cosine (passed longitude_read.type_inv.body.0.1 refl)
 
   t_is : by_latitude.sine_cosine_in-t.result ≡ sine_cosine start.args.body.latitude
   t_is = gave_sine_cosine _ by_latitude.sine_cosine_in-t.ensures ∙ ap sine_cosine (passed latitude_read.struct_told-2-1.given.1.0.1 refl)
 
   θ_is : by_sidereal.sine_cosine_in-theta.result ≡ sine_cosine start.args.orientation.sidereal
-  θ_is = gave_sine_cosine _ by_sidereal.sine_cosine_in-theta.ensures ∙ ap sine_cosine (passed sidereal_read.type_inv.orientation.given.0.1 refl)
+  θ_is = gave_sine_cosine _ by_sidereal.sine_cosine_in-theta.ensures ∙ ap sine_cosine (passed sidereal_read.type_inv.orientation.0.1 refl)
 
   ε_is : c.sine_cosine_in-epsilon.result ≡ sine_cosine start.args.orientation.obliquity
   ε_is = gave_sine_cosine _ c.sine_cosine_in-epsilon.ensures ∙ ap sine_cosine (passed obliquity_read.struct_told-4-1.given.1.0.1 refl)
