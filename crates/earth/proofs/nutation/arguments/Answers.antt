@@ -1,6 +1,5 @@
 -- `earth::nutation::arguments` meets its contract.
 use mathlib.Core.List.{[], ◌∷◌}
-use borrow.Author.Rules.{rules}
 use Rattle.numbers.proofs.Machine.{passed}
 use Rattle.earth.proofs.nutation.arguments.Goals as goal
 

@@ -2,7 +2,6 @@
 use mathlib.Core.Path.{◌∙◌, ◌≡◌, subst⁻¹}
 use Prim.Native.Nat.{◌^◌}
 use lib.IntN.{pos, ℤ}
-use borrow.Author.Rules.{rules}
 use Rattle.numbers.proofs.Machine.{Mirror, ◌⊗◌, asked, fits, floor_gave, kept, lit, told}
 use Rattle.sum_rules.specs.Instant.{u}
 use Rattle.sum_terms.specs.TermRange.{Turns}

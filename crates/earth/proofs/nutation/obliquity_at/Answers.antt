@@ -1,7 +1,6 @@
 -- `earth::nutation::obliquity_at` meets its contract.
 use Prim.Native.Nat.{◌*◌, ◌/◌}
 use lib.IntN.{negsuc, pos}
-use borrow.Author.Rules.{rules}
 use Rattle.numbers.proofs.Machine.{Mirror, ◌⊕◌, ◌⊗◌, arg, fits, floor_gave, kept, lit}
 use Rattle.sum_rules.specs.Nutation.{mean_obliquity}
 use Rattle.sum_terms.proofs.InstantLaws.{p2_told, p3_told, u_told}

@@ -4,7 +4,6 @@ use mathlib.Core.Path.{◌∙◌, ◌≡◌, ap}
 use lib.IntN.{ℤ}
 use mir.Syntax.{w32}
 use mir.Val.{of_z, to_z}
-use borrow.Author.Rules.{rules}
 use Rattle.numbers.proofs.Machine.{passed}
 use Rattle.sum_rules.specs.Table.{column}
 use Rattle.earth.specs.NutationRange.{SmallRow}

@@ -4,7 +4,6 @@ use mathlib.Core.Path.{◌∙◌, ◌≡◌}
 use lib.IntN.{◌*ℤ◌, ℤ}
 use mir.Syntax.{w64}
 use mir.Val.{of_z, to_z}
-use borrow.Author.Rules.{rules}
 use Rattle.number_rules.specs.Sine.{cosine, sine}
 use Rattle.numbers.proofs.Machine.{Mirror, arg, asked, gave, passed}
 use Rattle.sum_rules.specs.Nutation.{row_angle, weight}

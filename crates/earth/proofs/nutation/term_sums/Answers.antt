@@ -1,18 +1,17 @@
 -- `earth::nutation::term_sums` meets its contract. The invariant: the sums are those of the rows before i; u stands in it by its bits.
 use mathlib.Core.List.{List}
 use mathlib.Core.Path.{◌∙◌, ap, refl}
-use Prim.Native.Nat.{◌-◌, ◌<◌, ◌^◌, ◌≤◌, zero-le}
+use Prim.Native.Nat.{◌<◌, ◌^◌, ◌≤◌, zero-le}
 use native.Mathlib.Omega.{arith}
 use lib.IntN.{nat_abs, ℤ}
 use lib.ListN.{length}
 use mir.Syntax.{w64}
 use mir.Val.{of_z, to_z}
-use borrow.Author.Rules.{rules}
 use Rattle.numbers.proofs.Machine.{any, handed}
 use Rattle.sum_rules.specs.Nutation.{cosine_term, sine_term}
 use Rattle.sum_rules.specs.Table.{total}
 use Rattle.earth.proofs.NutationLaws.{cosine_summing, sine_summing}
-use Rattle.sum_terms.proofs.SumLoop.{Next, Summed, all_added, next}
+use Rattle.sum_terms.proofs.SumLoop.{Next, all_added, next}
 use Rattle.earth.proofs.nutation.term_sums.Goals as goal
 use Rattle.earth.proofs.nutation.term_sums.Goals.{After-row_terms-row, At-loop-i, Start}
 

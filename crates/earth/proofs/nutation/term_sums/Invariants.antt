@@ -1,17 +1,7 @@
-use mathlib.Core.List.{List}
-use mathlib.Core.Path.{◌∙◌, ap, refl}
-use Prim.Native.Nat.{◌-◌, ◌<◌, ◌^◌, ◌≤◌, zero-le}
-use native.Mathlib.Omega.{arith}
-use lib.IntN.{nat_abs, ℤ}
+use Prim.Native.Nat.{◌-◌, ◌≤◌}
 use lib.ListN.{length}
-use mir.Syntax.{w64}
-use mir.Val.{of_z, to_z}
-use borrow.Author.Rules.{rules}
-use Rattle.numbers.proofs.Machine.{any, handed}
 use Rattle.sum_rules.specs.Nutation.{cosine_term, sine_term}
-use Rattle.sum_rules.specs.Table.{total}
-use Rattle.earth.proofs.NutationLaws.{cosine_summing, sine_summing}
-use Rattle.sum_terms.proofs.SumLoop.{Next, Summed, all_added, next}
+use Rattle.sum_terms.proofs.SumLoop.{Summed}
 use Rattle.earth.proofs.nutation.term_sums.Given as goal
 
 abbrev pub invariant-loop-i : goal.invariant-loop-i

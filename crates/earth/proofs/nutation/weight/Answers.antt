@@ -1,6 +1,5 @@
 -- `earth::nutation::weight` meets its contract.
 use lib.IntN.{pos}
-use borrow.Author.Rules.{rules}
 use Rattle.numbers.proofs.Machine.{Mirror, ◌⊕◌, ◌⊗◌, arg, fits, floor_gave, kept, lit}
 use Rattle.sum_terms.proofs.NarrowMirror.{narrow, widened}
 use Rattle.earth.proofs.nutation.weight.Goals as goal

@@ -2,7 +2,6 @@
 use mathlib.Core.Path.{◌∙◌, ap, subst⁻¹}
 use Prim.Native.Nat.{◌≤◌, ℕ}
 use lib.IntN.{◌*ℤ◌, ◌+ℤ◌, pos}
-use borrow.Author.Rules.{rules}
 use Rattle.arithmetic.specs.Floor.{⌊◌÷◌⌋}
 use Rattle.number_rules.specs.Angle.{full_turn}
 use Rattle.number_rules.specs.Sine.{cosine}

@@ -2,7 +2,6 @@
 use mathlib.Core.Path.{◌∙◌, ap}
 use Prim.Native.Nat.{◌*◌}
 use lib.IntN.{negsuc, pos}
-use borrow.Author.Rules.{rules}
 use Rattle.number_rules.specs.Angle.{reduced}
 use Rattle.numbers.proofs.Machine.{Mirror, ◌⊕◌, ◌⊗◌, fits, floor_gave, kept, lit}
 use Rattle.numbers.proofs.WideProduct.{mul_div_asked, mul_div_gave}

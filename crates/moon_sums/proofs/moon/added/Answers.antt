@@ -1,7 +1,6 @@
 -- `moon_sums::moon::added` meets its contract.
 use mathlib.Core.Path.{◌∙◌, ap}
 use lib.IntN.{pos}
-use borrow.Author.Rules.{rules}
 use Rattle.number_rules.specs.Sine.{sine}
 use Rattle.numbers.proofs.Machine.{Mirror, ◌⊗◌, any, arg, fits, gave, kept, lit}
 use Rattle.number_rules.proofs.SineSize.{sine_most}

@@ -1,6 +1,5 @@
 -- `moon_sums::moon::arguments` meets its contract.
 use mathlib.Core.List.{[], ◌∷◌}
-use borrow.Author.Rules.{rules}
 use Rattle.numbers.proofs.Machine.{passed}
 use Rattle.moon_sums.proofs.moon.arguments.Goals as goal
 

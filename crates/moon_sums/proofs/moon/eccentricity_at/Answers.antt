@@ -1,6 +1,5 @@
 -- `moon_sums::moon::eccentricity_at` meets its contract.
 use lib.IntN.{negsuc, pos}
-use borrow.Author.Rules.{rules}
 use Rattle.numbers.proofs.Machine.{Mirror, ◌⊕◌, ◌⊗◌, fits, floor_gave, kept, lit}
 use Rattle.sum_terms.proofs.InstantLaws.{p2_told, u_told}
 use Rattle.sum_rules.specs.Moon.{E, E2}

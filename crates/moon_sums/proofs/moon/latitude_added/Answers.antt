@@ -2,7 +2,6 @@
 use mathlib.Core.Path.{refl}
 use Prim.Native.Nat.{ℕ}
 use lib.IntN.{negsuc, pos}
-use borrow.Author.Rules.{rules}
 use Rattle.numbers.proofs.Machine.{Mirror, ◌⊕◌, ◌⊖◌, any, arg, fits, kept, told}
 use Rattle.sum_rules.specs.Table.{column}
 use Rattle.moon_sums.proofs.MoonLaws.{added_gave}

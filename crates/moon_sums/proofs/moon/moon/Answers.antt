@@ -1,7 +1,6 @@
 -- `moon_sums::moon::moon` meets its contract.
 use mathlib.Core.Path.{◌∙◌, ◌≡◌, ap, subst}
 use lib.IntN.{ℤ}
-use borrow.Author.Rules.{rules}
 use Rattle.numbers.proofs.Machine.{any}
 use Rattle.sum_rules.specs.Accuracy.{MoonNear}
 use Rattle.sum_rules.specs.Instant.{powers}

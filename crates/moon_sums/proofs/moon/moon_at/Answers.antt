@@ -3,7 +3,6 @@
 use mathlib.Core.Path.{◌∙◌, ◌≡◌, ap, subst⁻¹}
 use Prim.Native.Nat.{◌≤◌}
 use lib.IntN.{nat_abs, pos, ℤ}
-use borrow.Author.Rules.{rules}
 use Rattle.number_rules.specs.Angle.{reduced}
 use Rattle.numbers.proofs.Machine.{Mirror, ◌⊕◌, asked, fits, floor_gave, gave, kept, lit, some_gave, told}
 use Rattle.sum_rules.specs.Instant.{furthest}

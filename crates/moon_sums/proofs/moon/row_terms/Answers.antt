@@ -5,7 +5,6 @@ use Prim.Native.Nat.{zero-le}
 use lib.IntN.{◌*ℤ◌, nat_abs, pos, ℤ}
 use mir.Syntax.{w32, w64}
 use mir.Val.{of_z, to_z}
-use borrow.Author.Rules.{rules}
 use Rattle.number_rules.specs.Sine.{cosine, sine}
 use Rattle.numbers.proofs.Machine.{Mirror, asked, gave, passed}
 use Rattle.sum_rules.specs.Moon.{row_angle, weight}

@@ -1,17 +1,16 @@
 -- `moon_sums::moon::term_sums` meets its contract. The invariant: the sums are those of the rows before i.
 use mathlib.Core.List.{List}
 use mathlib.Core.Path.{refl}
-use Prim.Native.Nat.{◌-◌, ◌<◌, ◌≤◌, zero-le}
+use Prim.Native.Nat.{◌<◌, zero-le}
 use native.Mathlib.Omega.{arith}
 use lib.IntN.{ℤ}
 use lib.ListN.{length}
 use mir.Syntax.{w64}
 use mir.Val.{to_z}
-use borrow.Author.Rules.{rules}
 use Rattle.sum_rules.specs.Moon.{cosine_term, sine_term}
 use Rattle.sum_rules.specs.Table.{total}
 use Rattle.moon_sums.proofs.MoonLaws.{cosine_summing, sine_summing}
-use Rattle.sum_terms.proofs.SumLoop.{Next, Summed, all_added, next}
+use Rattle.sum_terms.proofs.SumLoop.{Next, all_added, next}
 use Rattle.moon_sums.proofs.moon.term_sums.Goals as goal
 use Rattle.moon_sums.proofs.moon.term_sums.Goals.{After-row_terms-row, At-loop-i, Start}
 

@@ -2,12 +2,11 @@
 use mathlib.Core.Path.{◌∙◌, ◌≡◌, ap, refl, sym}
 use Prim.Native.Nat.{suc, zero, ℕ}
 use lib.IntN.{◌*ℤ◌, nat_abs, pos, ℤ}
-use borrow.Author.Rules.{rules}
 use Rattle.arithmetic.specs.Floor.{⌊◌÷◌⌋}
-use Rattle.numbers.proofs.Machine.{Mirror, ◌⊗◌, fits, floor_gave, kept, lit, told}
+use Rattle.numbers.proofs.Machine.{Mirror, ◌⊗◌, floor_gave, kept, lit, told}
 use Rattle.sum_rules.specs.Moon.{weight}
 use Rattle.sum_rules.specs.declared.moon.Eccentricity.{Eccentricity}
-use Rattle.sum_terms.proofs.NarrowMirror.{narrow, widened}
+use Rattle.sum_terms.proofs.NarrowMirror.{narrow}
 use Rattle.moon_sums.proofs.moon.weight.Goals as goal
 use Rattle.moon_sums.proofs.moon.weight.Goals.{After-absolute-m, Start}
 

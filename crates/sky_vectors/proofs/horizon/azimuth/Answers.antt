@@ -1,6 +1,5 @@
 -- `sky_vectors::horizon::azimuth` meets its contract.
 use mathlib.Core.Path.{refl}
-use borrow.Author.Rules.{rules}
 use Rattle.arctangent.proofs.ArctangentLaws.{gave_direction}
 use Rattle.numbers.proofs.Machine.{Mirror, some_gave}
 use Rattle.sky_vectors.specs.Horizon.{azimuth}

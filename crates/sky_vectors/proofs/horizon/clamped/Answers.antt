@@ -3,7 +3,6 @@ use mathlib.Core.Bool.{false, true}
 use mathlib.Core.Path.{◌≡◌, subst}
 use lib.IntN.{neg_ℤ, pos, ℤ}
 use lib.Signed.{lt_z}
-use borrow.Author.Rules.{rules}
 use Rattle.number_rules.specs.Angle.{quarter_turn}
 use Rattle.numbers.proofs.Machine.{Mirror, any}
 use Rattle.sky_vectors.specs.Horizon.{clamped}

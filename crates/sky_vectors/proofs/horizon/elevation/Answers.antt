@@ -1,7 +1,6 @@
 -- `sky_vectors::horizon::elevation` meets its contract: each call's equation, put into the next.
 use mathlib.Core.Path.{◌∙◌, ◌≡◌, ap, ap₂}
 use lib.IntN.{ℤ}
-use borrow.Author.Rules.{rules}
 use Rattle.numbers.proofs.Machine.{Mirror, asked, field, gave, passed}
 use Rattle.sky_vectors.specs.Horizon.{clamped, elevation, level, lowered, slope}
 use Rattle.sky_vectors.proofs.SkyMirror.{slope_most}

@@ -6,7 +6,6 @@ use lib.IntN.{◌*ℤ◌, ◌+ℤ◌, nat_abs, pos, ℤ}
 use mir.Syntax.{w64}
 use mir.Val.{Fits, SFits}
 use mir.ValLaws.{to_z_pos}
-use borrow.Author.Rules.{rules}
 use Rattle.numbers.specs.Root.{root}
 use Rattle.numbers.proofs.Machine.{Mirror, ◌⊗◌, field, fits, kept, nat_fits}
 use Rattle.numbers.proofs.RootLaws.{root_most}

@@ -3,7 +3,6 @@ use mathlib.Core.Bool.{false, true}
 use mathlib.Core.Path.{◌≡◌, subst}
 use lib.IntN.{pos, ℤ}
 use lib.Signed.{le_z}
-use borrow.Author.Rules.{rules}
 use Rattle.number_rules.specs.Angle.{full_turn, half_turn}
 use Rattle.numbers.proofs.Machine.{Mirror, ◌⊖◌, arg, fits, kept, lit}
 use Rattle.sky_vectors.specs.Horizon.{lowered}

@@ -1,6 +1,5 @@
 -- `sky_vectors::horizon::slope` meets its contract.
 use mathlib.Core.Path.{◌∙◌, ap}
-use borrow.Author.Rules.{rules}
 use Rattle.arctangent.specs.Direction.{angle_or}
 use Rattle.arctangent.proofs.ArctangentLaws.{gave_direction, gave_reduced}
 use Rattle.numbers.proofs.Machine.{any, passed}

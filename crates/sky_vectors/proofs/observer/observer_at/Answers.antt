@@ -2,7 +2,6 @@
 use mathlib.Core.Path.{◌∙◌, ◌≡◌, ap, subst₂, sym}
 use Prim.Native.Nat.{◌+◌, ◌<◌}
 use lib.IntN.{nat_abs, pos, ℤ}
-use borrow.Author.Rules.{rules}
 use Rattle.number_rules.specs.Sine.{cosine, sine}
 use Rattle.numbers.proofs.Machine.{Mirror, ◌⊕◌, ◌⊗◌, arg, fits, floor_gave, kept, lit, told}
 use Rattle.number_rules.proofs.SineSize.{cosine_most, sine_most}

@@ -1,5 +1,4 @@
 -- `sky_vectors::observer::shifted` meets its contract.
-use borrow.Author.Rules.{rules}
 use Rattle.numbers.proofs.Machine.{Mirror, ◌⊖◌, ◌⊗◌, arg, field, fits, floor_gave, kept}
 use Rattle.sky_vectors.specs.Observer.{shifted}
 use Rattle.sky_vectors.specs.Product.{◌·◌}

@@ -1,6 +1,5 @@
 -- `sky_vectors::place::from_centre` meets its contract: each call's equation, put into the next.
 use mathlib.Core.Path.{◌∙◌, ◌≡◌, ap, ap₂, refl, subst⁻¹}
-use borrow.Author.Rules.{rules}
 use Rattle.numbers.proofs.Machine.{passed}
 use Rattle.sky_vectors.specs.Place.{from_centre}
 use Rattle.numbers.specs.SineCosine.{OneAngle, sine_cosine}

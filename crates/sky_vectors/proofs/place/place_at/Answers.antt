@@ -1,6 +1,5 @@
 -- `sky_vectors::place::place_at` meets its contract.
 use mathlib.Core.Path.{◌∙◌, subst⁻¹}
-use borrow.Author.Rules.{rules}
 use Rattle.sky_vectors.specs.Place.{place_at, place_from}
 use Rattle.sky_vectors.specs.SkyRange.{Standing}
 use Rattle.sky_vectors.proofs.SkySizes.{runner_stands}

@@ -1,6 +1,5 @@
 -- `sky_vectors::place::place_from` meets its contract.
 use mathlib.Core.Path.{◌∙◌, ap, subst⁻¹}
-use borrow.Author.Rules.{rules}
 use Rattle.sky_vectors.specs.Place.{place_from, place_towards}
 use Rattle.sky_vectors.specs.SkyRange.{SmallVector, direction_limit}
 use Rattle.sky_vectors.proofs.SkySizes.{direction_small}

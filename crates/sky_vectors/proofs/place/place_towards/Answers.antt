@@ -1,6 +1,5 @@
 -- `sky_vectors::place::place_towards` meets its contract.
 use mathlib.Core.Path.{◌∙◌, ap, subst⁻¹}
-use borrow.Author.Rules.{rules}
 use Rattle.numbers.proofs.Machine.{passed}
 use Rattle.sky_vectors.specs.Horizon.{azimuth, elevation}
 use Rattle.sky_vectors.specs.Place.{place_towards}

@@ -1,5 +1,4 @@
 -- `sky_vectors::rotation::rotated` meets its contract: each of its four products fits, and each sum of two.
-use borrow.Author.Rules.{rules}
 use Rattle.numbers.proofs.Machine.{Mirror, ◌⊕◌, ◌⊖◌, ◌⊗◌, arg, fits, floor_gave, kept}
 use Rattle.sky_vectors.specs.Product.{◌·◌}
 use Rattle.sky_vectors.specs.Rotation.{rotated}

@@ -1,7 +1,6 @@
 -- `sky_vectors::station::runner_at` meets its contract.
 use mathlib.Core.Path.{◌∙◌, ◌≡◌, ap, ap₂}
 use lib.IntN.{◌*ℤ◌, pos}
-use borrow.Author.Rules.{rules}
 use Rattle.numbers.proofs.Machine.{Mirror, ◌⊗◌, asked, field, fits, kept, lit}
 use Rattle.sky_vectors.specs.Observer.{observer}
 use Rattle.numbers.specs.SineCosine.{sine_cosine}

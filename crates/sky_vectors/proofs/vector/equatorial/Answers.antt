@@ -1,6 +1,5 @@
 -- `sky_vectors::vector::equatorial` meets its contract.
 use mathlib.Core.Path.{◌∙◌}
-use borrow.Author.Rules.{rules}
 use Rattle.sky_vectors.specs.Rotation.{rotated}
 use Rattle.sky_vectors.specs.Vector.{equatorial}
 use Rattle.sky_vectors.proofs.RotationLaws.{equatorial_z, gave_across, gave_along}

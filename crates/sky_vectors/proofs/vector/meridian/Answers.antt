@@ -1,5 +1,4 @@
 -- `sky_vectors::vector::meridian` meets its contract.
-use borrow.Author.Rules.{rules}
 use Rattle.sky_vectors.specs.Rotation.{rotated}
 use Rattle.sky_vectors.specs.Vector.{meridian}
 use Rattle.sky_vectors.proofs.RotationLaws.{gave_across, gave_along}

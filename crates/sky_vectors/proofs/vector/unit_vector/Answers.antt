@@ -1,5 +1,4 @@
 -- `sky_vectors::vector::unit_vector` meets its contract.
-use borrow.Author.Rules.{rules}
 use Rattle.numbers.proofs.Machine.{Mirror, ◌⊗◌, fits, floor_gave, kept}
 use Rattle.sky_vectors.specs.Product.{◌·◌}
 use Rattle.sky_vectors.specs.Vector.{unit_vector}

@@ -1,17 +1,16 @@
 -- `sun_sums::sun::group` meets its contract. The invariant: the sum is that of the rows before i; n stands in it by its bits.
 use mathlib.Core.List.{List}
 use mathlib.Core.Path.{◌∙◌, ap, refl}
-use Prim.Native.Nat.{◌-◌, ◌<◌, ◌≤◌, zero-le, ℕ}
+use Prim.Native.Nat.{◌<◌, zero-le, ℕ}
 use native.Mathlib.Omega.{arith}
 use lib.IntN.{ℤ}
 use lib.ListN.{length}
 use mir.Syntax.{w64}
 use mir.Val.{of_z, to_z}
-use borrow.Author.Rules.{rules}
 use Rattle.numbers.proofs.Machine.{any, handed}
 use Rattle.sum_rules.specs.Sun.{group, row_value}
 use Rattle.sum_rules.specs.Table.{total}
-use Rattle.sum_terms.proofs.SumLoop.{Next, Summed, all_added, next}
+use Rattle.sum_terms.proofs.SumLoop.{Next, all_added, next}
 use Rattle.sun_sums.proofs.SunLaws.{group_summing}
 use Rattle.sun_sums.proofs.sun.group.Goals as goal
 use Rattle.sun_sums.proofs.sun.group.Goals.{After-row_value-sum, At-loop-i, Start}

@@ -1,7 +1,6 @@
 -- `sun_sums::sun::heliocentric_longitude` meets its contract: each v is what the groups above give, from the highest down.
 use mathlib.Core.List.{[], ◌∷◌}
 use Prim.Native.Nat.{zero-le}
-use borrow.Author.Rules.{rules}
 use Rattle.numbers.proofs.Machine.{Mirror, asked, passed}
 use Rattle.sum_rules.specs.SunTerms.{L0, L1, L2, L3, L4, L5}
 use Rattle.sum_terms.proofs.InstantLaws.{instant_told}

@@ -4,7 +4,6 @@ use Prim.Native.Nat.{◌^◌, ◌≤◌, ℕ}
 use native.Mathlib.Nat.{zero-lt-suc}
 use native.Mathlib.Omega.{arith}
 use lib.IntN.{◌*ℤ◌, pos, ℤ}
-use borrow.Author.Rules.{rules}
 use Rattle.arithmetic.specs.Floor.{◌modulo◌, ⌊◌÷◌⌋}
 use Rattle.arithmetic.proofs.FloorLaws.{modulo_below}
 use Rattle.numbers.proofs.Machine.{Mirror, any, from_nat, lit, nat_fits}

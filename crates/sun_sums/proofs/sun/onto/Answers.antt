@@ -2,7 +2,6 @@
 use mathlib.Core.Path.{◌∙◌, ap}
 use native.Mathlib.Nat.{le_trans}
 use lib.IntN.{ℤ}
-use borrow.Author.Rules.{rules}
 use Rattle.numbers.proofs.Machine.{Mirror, ◌⊕◌, ◌⊗◌, arg, fits, floor_gave, gave, kept}
 use Rattle.sum_rules.specs.Sun.{group}
 use Rattle.sum_terms.proofs.InstantLaws.{instant_told, u_told}

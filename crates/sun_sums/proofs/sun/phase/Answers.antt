@@ -1,5 +1,4 @@
 -- `sun_sums::sun::phase` meets its contract.
-use borrow.Author.Rules.{rules}
 use Rattle.numbers.proofs.Machine.{Mirror, arg, from_nat}
 use Rattle.numbers.proofs.WideProduct.{mul_div_asked, mul_div_gave}
 use Rattle.sum_rules.specs.Instant.{millennium}

@@ -3,7 +3,6 @@ use mathlib.Core.List.{List}
 use mathlib.Core.Path.{◌∙◌, ◌≡◌, ap, subst⁻¹, sym}
 use Prim.Native.Nat.{◌≤◌, ℕ}
 use lib.IntN.{pos, ℤ}
-use borrow.Author.Rules.{rules}
 use Rattle.number_rules.specs.Angle.{full_turn}
 use Rattle.number_rules.specs.Sine.{cosine}
 use Rattle.numbers.proofs.Machine.{Mirror, ◌⊗◌, any, fits, floor_gave, from_nat, gave, kept, lit, nat_fits}

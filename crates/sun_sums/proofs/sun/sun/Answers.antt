@@ -1,7 +1,6 @@
 -- `sun_sums::sun::sun` meets its contract.
 use mathlib.Core.Path.{◌∙◌, ◌≡◌, ap, subst}
 use lib.IntN.{ℤ}
-use borrow.Author.Rules.{rules}
 use Rattle.numbers.proofs.Machine.{any}
 use Rattle.sum_rules.specs.Accuracy.{SunNear}
 use Rattle.sum_rules.specs.Instant.{powers}

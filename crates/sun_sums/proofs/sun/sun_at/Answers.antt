@@ -1,5 +1,4 @@
 -- `sun_sums::sun::sun_at` meets its contract.
-use borrow.Author.Rules.{rules}
 use Rattle.numbers.proofs.Machine.{passed}
 use Rattle.sum_rules.proofs.Accurate.{sun_near}
 use Rattle.sun_sums.proofs.sun.sun_at.Goals as goal
