@@ -3,7 +3,6 @@ use mathlib.Core.Bool.{Bool}
 use mathlib.Core.Path.{◌∙◌, ap}
 use Rattle.calendar.proofs.RefusalLaws.{alone}
 use Rattle.calendar.specs.Refusal.{◌unless◌}
-use borrow.Author.Rules.{rules}
 use Rattle.request.proofs.start.clock_verdict.Goals as goal
 
 pub returns : goal.returns

@@ -1,16 +1,15 @@
 -- `request::start::elapsed_of` meets its contract.
 use Prim.Native.Nat.{zero-le}
 use lib.IntN.{pos}
-use borrow.Author.Rules.{rules}
 use Rattle.numbers.proofs.Machine.{Mirror, ◌⊕◌, ◌⊗◌, field, fits, kept, lit}
 use Rattle.request.proofs.RequestLaws.{Clock, between_size, clock}
 use Rattle.request.specs.Request.{elapsed, fraction_limit}
 use Rattle.request.specs.declared.start.Start.{Start}
 use Rattle.sum_rules.specs.Instant as Unit
 use Rattle.request.proofs.start.elapsed_of.Goals as goal
-use Rattle.request.proofs.start.elapsed_of.Goals.{Start}
+use Rattle.request.proofs.start.elapsed_of.Goals.{Start as Begun}
 
-module _ (s : Start) where
+module _ (s : Begun) where
   abbrev start : Start
   start = s.args.start
 

@@ -22,7 +22,7 @@ module _ (s : Start) where
 -- what `instant_at` is handed
 module _ (c : After-elapsed_of) where
   abbrev s : Start
-  s = c.before.before.before
+  s = (goal.at.After-elapsed_of c).Start
 
   days_is : to_z w64 (of_z w64 c.days_in.result) ≡ (date s.args.start).days
   days_is = passed c.days_in.type_inv (c.days_in.ensures ∙ ap (λ (a : DayAnswer). a.days) c.date_of.ensures.equal)

@@ -7,7 +7,6 @@ use Rattle.numbers.specs.Whole.{between}
 use Rattle.sum_rules.specs.Instant.{minus}
 use Rattle.request.specs.Request.{delta_limit, ut1_limit}
 use Rattle.request.proofs.RequestLaws.{judged_between}
-use borrow.Author.Rules.{rules}
 use Rattle.request.proofs.start.scale_verdict.Goals as goal
 
 pub returns : goal.returns

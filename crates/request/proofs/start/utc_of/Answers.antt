@@ -1,7 +1,6 @@
 -- `request::start::utc_of` meets its contract.
 use mathlib.Core.Path.{◌∙◌, ap}
 use lib.IntN.{pos}
-use borrow.Author.Rules.{rules}
 use Rattle.numbers.proofs.Machine.{Mirror, ◌⊕◌, ◌⊗◌, fits, gave, kept, lit}
 use Rattle.number_rules.specs.Calendar.{DayAnswer}
 use Rattle.request.proofs.RequestLaws.{accepted, clock_passes}
@@ -10,11 +9,11 @@ use Rattle.request.specs.declared.start.Start.{Start}
 use Rattle.sum_rules.proofs.AcceptedInstants.{days_small, elapsed_small}
 use Rattle.sum_rules.specs.Instant.{day}
 use Rattle.request.proofs.start.utc_of.Goals as goal
-use Rattle.request.proofs.start.utc_of.Goals.{After-days_in, After-elapsed_of, Start}
+use Rattle.request.proofs.start.utc_of.Goals.{After-days_in, After-elapsed_of, Start as Begun}
 
 module _ (c : After-days_in) where
-  abbrev s : Start
-  s = c.before.before
+  abbrev s : Begun
+  s = (goal.at.After-days_in c).Start
 
   abbrev start : Start
   start = s.args.start
@@ -27,8 +26,8 @@ module _ (c : After-days_in) where
 module _ (c : After-elapsed_of) where
   abbrev units : Mirror
   units =
-      kept (days c.before) tt
-      ⊕ gave c.elapsed_of.type_inv c.elapsed_of.ensures (elapsed_small (accepted (start c.before) (s c.before).requires))
+      kept (days (goal.at.After-elapsed_of c).After-days_in) tt
+      ⊕ gave c.elapsed_of.type_inv c.elapsed_of.ensures (elapsed_small (accepted (start (goal.at.After-elapsed_of c).After-days_in) (s (goal.at.After-elapsed_of c).After-days_in).requires))
 
 pub overflow_mul-result : goal.overflow_mul-result
 overflow_mul-result c = fits (days (goal.at.overflow_mul-result c).After-days_in) tt
