@@ -19,10 +19,10 @@ use Rattle.batch.proofs.samples.fill.Goals.{After-place_from-place, At-loop-i, S
 -- the place at i
 module _ (c : After-place_from-place) where
   abbrev head : At-loop-i
-  head = c.before.before.before.before
+  head = (goal.at.After-place_from-place c).At-loop-i
 
   abbrev s : Start
-  s = head.before.before
+  s = (goal.at.At-loop-i head).Start
 
   abbrev offset : ℕ
   offset = get_or s.args.offsets.now head.loop-i.i 0

@@ -19,7 +19,7 @@ use Rattle.batch.proofs.samples.first_late.Goals.{After-is_late, Start}
 -- the test at i
 module _ (c : After-is_late) where
   abbrev s : Start
-  s = c.before.before.before.before.before
+  s = (goal.at.After-is_late c).Start
 
   abbrev i : ℕ
   i = c.loop-index.index

@@ -26,9 +26,9 @@ use Rattle.sky_vectors.specs.declared.station.Point.{Point}
 use Rattle.request.specs.declared.start.Start.{Start}
 use Rattle.sum_rules.specs.declared.instant.Instant.{Instant}
 use Rattle.batch.proofs.samples.places_at.Goals as goal
-use Rattle.batch.proofs.samples.places_at.Goals.{After-first_late-late, After-instant_of, After-or_else-verdict, In_default, Start}
+use Rattle.batch.proofs.samples.places_at.Goals.{After-first_late-late, After-instant_of, After-or_else-verdict, In_default, Start as Begun}
 
-module _ (s : Start) where
+module _ (s : Begun) where
   abbrev start : Start
   start = s.args.start
 
@@ -49,26 +49,23 @@ module _ (s : Start) where
 
 -- 1 to 9 and 12
 module _ (c : After-or_else-verdict) where
-  abbrev s₁ : Start
-  s₁ = c.before.before.before.before.before.before
+  abbrev s₁ : Begun
+  s₁ = (goal.at.After-or_else-verdict c).Start
 
   abbrev checks : List ℕ
   checks = room_refusals (start s₁) (point s₁) (offsets s₁) (azimuths s₁) (elevations s₁)
 
   verdict_is : verdict_number c.or_else-verdict.result ≡ first checks
   verdict_is =
-      let by_room = c.before.before in
-      let by_point = by_room.before in
-      let by_start = by_point.before in
-      joined (start_refusals (start s₁)) (point_refusals (point s₁) ++ (12 unless room s₁ ∷ [])) c.or_else-verdict.ensures by_start.start_verdict-by_start.ensures
-      (joined (point_refusals (point s₁)) (12 unless room s₁ ∷ []) c.or_else.ensures by_point.point_verdict-by_point.ensures (alone by_room.room_verdict-by_room.ensures))
+      joined (start_refusals (start s₁)) (point_refusals (point s₁) ++ (12 unless room s₁ ∷ [])) c.or_else-verdict.ensures c.start_verdict-by_start.ensures
+      (joined (point_refusals (point s₁)) (12 unless room s₁ ∷ []) c.or_else.ensures c.point_verdict-by_point.ensures (alone c.room_verdict-by_room.ensures))
 
 -- a request that they let pass
 module _ (c : In_default) where
   abbrev judged : After-or_else-verdict
-  judged = c.before.before
+  judged = (goal.at.In_default c).After-or_else-verdict
 
-  abbrev s₂ : Start
+  abbrev s₂ : Begun
   s₂ = s₁ judged
 
   passes : first (checks judged) ≡ 0
@@ -85,7 +82,7 @@ module _ (c : In_default) where
 
 module _ (c : After-first_late-late) where
   abbrev e : In_default
-  e = c.before.before
+  e = (goal.at.After-first_late-late c).In_default
 
   late_is : c.first_late-late.result ≡ first_late (utc (start (s₂ e))) (offsets (s₂ e))
   late_is =
@@ -94,9 +91,9 @@ module _ (c : After-first_late-late) where
 -- a batch that 13 lets pass too
 module _ (c : After-instant_of) where
   abbrev late_in : After-first_late-late
-  late_in = c.before.before.before.before.before.before
+  late_in = (goal.at.After-instant_of c).After-first_late-late
 
-  abbrev s₃ : Start
+  abbrev s₃ : Begun
   s₃ = s₂ (e late_in)
 
   none_late : first_late (utc (start s₃)) (offsets s₃) ≡ length (offsets s₃)

@@ -16,7 +16,7 @@ use Rattle.sky.proofs.answer.place_in.Goals.{In-Passed, Start}
 -- a request that no check refuses
 module _ (c : In-Passed) where
   abbrev s : Start
-  s = c.before.before.before
+  s = (goal.at.In-Passed c).Start
 
   passes : first (request_refusals s.args.start s.args.point s.args.air) ≡ 0
   passes = sym c.request_verdict.ensures ∙ ap verdict_number c.in-Passed.is

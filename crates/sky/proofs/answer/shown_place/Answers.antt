@@ -11,12 +11,12 @@ use Rattle.sky.proofs.AnswerLaws.{judged_refusal, judged_value, judged_zeros, fo
 use Rattle.sky.proofs.Demand3.{every_place_near}
 use borrow.Author.Rules.{rules}
 use Rattle.sky.proofs.answer.shown_place.Goals as goal
-use Rattle.sky.proofs.answer.shown_place.Goals.{In-Refused-2, In-Seen-2, Start}
+use Rattle.sky.proofs.answer.shown_place.Goals.{In-Refused, In-Seen, Start}
 
 -- a place that is answered
-module _ (c : In-Seen-2) where
+module _ (c : In-Seen) where
   abbrev s : Start
-  s = c.before.before.before.before.before
+  s = (goal.at.In-Seen c).Start
 
   abbrev found : Place
   found = c.in-Seen.place
@@ -31,9 +31,9 @@ module _ (c : In-Seen-2) where
   found_is = place_found s.args.start s.args.body s.args.point s.args.air found is_ruled
 
 -- a place that is refused
-module _ (c : In-Refused-2) where
+module _ (c : In-Refused) where
   abbrev s₂ : Start
-  s₂ = c.before.before.before.before.before
+  s₂ = (goal.at.In-Refused c).Start
 
   refused : first (request_refusals s₂.args.start s₂.args.point s₂.args.air) ≡ number c.in-Refused.refusal
   unfolding place
@@ -43,28 +43,25 @@ module _ (c : In-Refused-2) where
 
 pub shown_at-requires : goal.shown_at-requires
 shown_at-requires c =
-    let e = (goal.at.shown_at-requires c).In-Seen-2 in
-    let a = (s e).args in
-    (e.table-table.ensures, found_in_turns a.start a.body a.point a.air (found e) (is_ruled e))
+    let a = (s (goal.at.shown_at-requires c).In-Seen).args in
+    (c.table-table.ensures, found_in_turns a.start a.body a.point a.air (found (goal.at.shown_at-requires c).In-Seen) (is_ruled (goal.at.shown_at-requires c).In-Seen))
 
 pub returns-in-Seen : goal.returns-in-Seen
 unfolding shown_place
 returns-in-Seen c =
-    let e = (goal.at.returns-in-Seen c).In-Seen-2 in
-    let a = (s e).args in
-    let value = c.shown_at.ensures ∙ ap (shown a.air) (found_is e) in record {
+    let a = (s (goal.at.returns-in-Seen c).In-Seen).args in
+    let value = c.shown_at.ensures ∙ ap (shown a.air) (found_is (goal.at.returns-in-Seen c).In-Seen) in record {
       one_answer = one_shown ((λ i. record { refusal = 0; value = value i })
-          ∙ sym (judged_value (first (request_refusals a.start a.point a.air)) nothing_shown (shown a.air (place_at a.body a.point (instant a.start))) (passes e)));
+          ∙ sym (judged_value (first (request_refusals a.start a.point a.air)) nothing_shown (shown a.air (place_at a.body a.point (instant a.start))) (passes (goal.at.returns-in-Seen c).In-Seen)));
       place_near = every_place_near a.start a.body a.point a.air;
     }
 
 pub returns-in-Refused : goal.returns-in-Refused
 unfolding shown_place
 returns-in-Refused c =
-    let e = (goal.at.returns-in-Refused c).In-Refused-2 in
-    let a = (s₂ e).args in record {
-      one_answer = one_shown ((λ i. record { refusal = sym (refused e) i; value = nothing_shown })
+    let a = (s₂ (goal.at.returns-in-Refused c).In-Refused).args in record {
+      one_answer = one_shown ((λ i. record { refusal = sym (refused (goal.at.returns-in-Refused c).In-Refused) i; value = nothing_shown })
           ∙ sym (judged_zeros (first (request_refusals a.start a.point a.air)) nothing_shown (shown a.air (place_at a.body a.point (instant a.start)))
-          (λ none. never_none e.in-Refused.refusal (sym (refused e) ∙ none))));
+          (λ none. never_none c.in-Refused.refusal (sym (refused (goal.at.returns-in-Refused c).In-Refused) ∙ none))));
       place_near = every_place_near a.start a.body a.point a.air;
     }
