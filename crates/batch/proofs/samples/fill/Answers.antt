@@ -1,15 +1,15 @@
 -- `batch::samples::fill` meets its contract: both buffers are filled for the first i offsets.
 use mathlib.Core.Path.{◌∙◌, ◌≡◌, ap, refl, subst⁻¹}
-use Prim.Native.Nat.{◌-◌, ◌<◌, ◌≤◌, zero-le, ℕ}
+use Prim.Native.Nat.{◌<◌, zero-le, ℕ}
 use native.Mathlib.Omega.{arith}
-use lib.ListN.{get_or, length, length-set, take}
+use lib.ListN.{get_or, length, length-set}
 use borrow.Author.Rules.{rules}
 use Rattle.arctangent.specs.Direction.{Reduced, angle_or, mark}
 use Rattle.sky_vectors.proofs.PlaceLaws.{place_from_in_turns}
 use mir.Syntax.{w64}
 use mir.Val.{SFits}
 use Rattle.batch.proofs.BatchLaws.{filled_all, filled_none, stored}
-use Rattle.batch.specs.Batch.{azimuth_from, elevation_from, filled, later}
+use Rattle.batch.specs.Batch.{azimuth_from, elevation_from, later}
 use Rattle.sky_vectors.specs.Place.{place_from}
 use Rattle.sky_vectors.specs.SkyRange.{Reachable}
 use Rattle.sky_vectors.specs.declared.place.Place.{Place}

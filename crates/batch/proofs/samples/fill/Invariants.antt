@@ -1,17 +1,7 @@
-use mathlib.Core.Path.{◌∙◌, ◌≡◌, ap, refl, subst⁻¹}
-use Prim.Native.Nat.{◌-◌, ◌<◌, ◌≤◌, zero-le, ℕ}
-use native.Mathlib.Omega.{arith}
-use lib.ListN.{get_or, length, length-set, take}
-use borrow.Author.Rules.{rules}
-use Rattle.arctangent.specs.Direction.{Reduced, angle_or, mark}
-use Rattle.sky_vectors.proofs.PlaceLaws.{place_from_in_turns}
-use mir.Syntax.{w64}
-use mir.Val.{SFits}
-use Rattle.batch.proofs.BatchLaws.{filled_all, filled_none, stored}
-use Rattle.batch.specs.Batch.{azimuth_from, elevation_from, filled, later}
-use Rattle.sky_vectors.specs.Place.{place_from}
-use Rattle.sky_vectors.specs.SkyRange.{Reachable}
-use Rattle.sky_vectors.specs.declared.place.Place.{Place}
+use mathlib.Core.Path.{◌≡◌}
+use Prim.Native.Nat.{◌-◌, ◌≤◌}
+use lib.ListN.{length, take}
+use Rattle.batch.specs.Batch.{azimuth_from, elevation_from, filled}
 use Rattle.batch.proofs.samples.fill.Given as goal
 
 abbrev pub invariant-loop-i : goal.invariant-loop-i

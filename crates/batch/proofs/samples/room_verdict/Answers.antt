@@ -1,7 +1,6 @@
 -- `batch::samples::room_verdict` meets its contract.
 use mathlib.Core.Path.{◌∙◌}
 use borrow.Author.Tests.{le-leb, lt-leb}
-use borrow.Author.Rules.{rules}
 use Rattle.batch.proofs.samples.room_verdict.Goals as goal
 
 pub returns-then-azimuths-count : goal.returns-then-azimuths-count

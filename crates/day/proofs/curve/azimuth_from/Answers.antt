@@ -1,17 +1,16 @@
 -- `curve::azimuth_from` meets its contract.
 use mathlib.Core.Path.{◌∙◌, ap, subst⁻¹}
-use borrow.Author.Rules.{rules}
 use Rattle.sky_vectors.proofs.SkySizes.{direction_small, widen}
 use Rattle.sky_vectors.specs.Horizon.{azimuth, horizon}
 use Rattle.sky_vectors.specs.Place.{place_from, place_towards}
 use Rattle.sky_vectors.specs.SkyRange.{SmallVector, direction_limit}
 use Rattle.day.proofs.curve.azimuth_from.Goals as goal
-use Rattle.day.proofs.curve.azimuth_from.Goals.{After-direction_at, Start}
+use Rattle.day.proofs.curve.azimuth_from.Goals.{After-direction_at, After-horizon_at, Start}
 
 -- the direction is small
 module _ (c : After-direction_at) where
   abbrev s : Start
-  s = c.before.before
+  s = (goal.at.After-direction_at c).Start
 
   small : SmallVector direction_limit c.direction_at.result
   small = subst⁻¹ (SmallVector direction_limit) c.direction_at.ensures (direction_small s.args.body s.requires.1.0 s.requires.1.1)
@@ -23,5 +22,5 @@ pub returns : goal.returns
 unfolding place_from place_towards
 returns c =
     let seen = (goal.at.returns c).After-horizon_at in
-    let latitude = (s seen.before).args.runner.latitude in
+    let latitude = (s (goal.at.After-horizon_at seen).After-direction_at).args.runner.latitude in
     c.azimuth.ensures ∙ ap azimuth (seen.horizon_at.ensures ∙ ap (horizon latitude) seen.direction_at.ensures)

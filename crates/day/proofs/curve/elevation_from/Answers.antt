@@ -1,18 +1,17 @@
 -- `curve::elevation_from` meets its contract.
 use mathlib.Core.Path.{◌∙◌, ap, subst⁻¹}
-use borrow.Author.Rules.{rules}
 use Rattle.numbers.proofs.Machine.{passed}
 use Rattle.sky_vectors.proofs.SkySizes.{direction_small, horizon_small, widen}
 use Rattle.sky_vectors.specs.Horizon.{elevation, horizon}
 use Rattle.sky_vectors.specs.Place.{place_from, place_towards}
 use Rattle.sky_vectors.specs.SkyRange.{SmallHorizon, SmallVector, direction_limit}
 use Rattle.day.proofs.curve.elevation_from.Goals as goal
-use Rattle.day.proofs.curve.elevation_from.Goals.{After-direction_at, Start}
+use Rattle.day.proofs.curve.elevation_from.Goals.{After-direction_at, After-horizon_at, Start}
 
 -- the direction is small, and so is what is seen of it
 module _ (c : After-direction_at) where
   abbrev s : Start
-  s = c.before.before
+  s = (goal.at.After-direction_at c).Start
 
   small : SmallVector direction_limit c.direction_at.result
   small = subst⁻¹ (SmallVector direction_limit) c.direction_at.ensures (direction_small s.args.body s.requires.1.0 s.requires.1.1)
@@ -29,5 +28,5 @@ pub returns : goal.returns
 unfolding place_from place_towards
 returns c =
     let seen = (goal.at.returns c).After-horizon_at in
-    let latitude = (s seen.before).args.runner.latitude in
+    let latitude = (s (goal.at.After-horizon_at seen).After-direction_at).args.runner.latitude in
     passed c.elevation.type_inv (c.elevation.ensures ∙ ap elevation (seen.horizon_at.ensures ∙ ap (horizon latitude) seen.direction_at.ensures))

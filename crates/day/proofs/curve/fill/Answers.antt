@@ -1,10 +1,8 @@
 -- `curve::fill` meets its contract. The invariant: the entries so far are the coordinates at the minutes so far.
 use mathlib.Core.Path.{◌∙◌, ◌≡◌, ap, subst⁻¹, sym}
-use Prim.Native.Nat.{◌-◌, ◌≤◌}
 use native.Mathlib.Omega.{arith}
-use lib.ListN.{length, length-set, take}
+use lib.ListN.{length-set}
 use lib.Seq.{take_all}
-use borrow.Author.Rules.{rules}
 use mir.Syntax.{w64}
 use mir.Val.{of_z, to_z}
 use mir.ValLaws.{to_z-of_z}

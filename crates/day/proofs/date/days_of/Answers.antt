@@ -1,6 +1,5 @@
 -- `date::days_of` meets its contract.
 use mathlib.Core.Path.{◌∙◌, ap}
-use borrow.Author.Rules.{rules}
 use Rattle.number_rules.specs.Calendar.{DayAnswer}
 use Rattle.numbers.proofs.Machine.{passed}
 use Rattle.request.specs.Request.{date}

@@ -17,7 +17,7 @@ use Rattle.eclipse.proofs.answer.solar_eclipse.Goals.{After-or_else, In-Passed, 
 -- the verdict on a request
 module _ (c : After-or_else) where
   abbrev s : Start
-  s = c.before.before.before
+  s = (goal.at.After-or_else c).Start
 
   verdict_is : verdict_number c.or_else.result ≡ first (eclipse_refusals s.args.start s.args.point)
   verdict_is =
@@ -27,10 +27,10 @@ module _ (c : After-or_else) where
 -- one that no check refuses
 module _ (c : In-Passed) where
   abbrev a : Start
-  a = s c.before.before
+  a = s (goal.at.In-Passed c).After-or_else
 
   passes : first (eclipse_refusals a.args.start a.args.point) ≡ 0
-  passes = sym (verdict_is c.before.before) ∙ ap verdict_number c.in-Passed.is
+  passes = sym (verdict_is (goal.at.In-Passed c).After-or_else) ∙ ap verdict_number c.in-Passed.is
 
 pub enum_told-1 : goal.enum_told-1
 enum_told-1 c = search rules

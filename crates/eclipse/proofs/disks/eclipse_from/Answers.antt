@@ -18,7 +18,7 @@ use Rattle.eclipse.specs.Eclipse.{eclipse_from, eclipse_of}
 use Rattle.eclipse.specs.EclipseRange.{MoonFar, ShortVector, SunFar}
 use Rattle.eclipse.proofs.DirectionLaws.{direction_short, moon_far, sun_far}
 use Rattle.eclipse.proofs.disks.eclipse_from.Goals as goal
-use Rattle.eclipse.proofs.disks.eclipse_from.Goals.{After-from_surface-to_moon, After-moment_at-moment, Start}
+use Rattle.eclipse.proofs.disks.eclipse_from.Goals.{After-from_surface-to_moon, After-geocentric_at-sun, After-moment_at-moment, Start}
 
 module _ (s : Start) where
   abbrev runner : Runner
@@ -38,7 +38,7 @@ module _ (s : Start) where
 
 module _ (c : After-moment_at-moment) where
   abbrev start : Start
-  start = c.before.before.before.before
+  start = (goal.at.After-moment_at-moment c).Start
 
   abbrev at : ℤ
   at = (runner start).longitude
@@ -59,7 +59,7 @@ module _ (c : After-moment_at-moment) where
 -- both bodies, and both directions
 module _ (c : After-from_surface-to_moon) where
   abbrev k : After-moment_at-moment
-  k = c.before.before.before.before.before.before
+  k = (goal.at.After-from_surface-to_moon c).After-geocentric_at-sun
 
   sun_is : c.geocentric_at-sun.result ≡ geocentric Bodies.Sun (instant (start k)).tt
   sun_is = body_is k Bodies.Sun c.geocentric_at-sun.ensures
@@ -78,13 +78,11 @@ moment_at-moment-requires c = let s = (goal.at.moment_at-moment-requires c).Star
 
 pub geocentric_at-sun-requires : goal.geocentric_at-sun-requires
 geocentric_at-sun-requires c =
-    let m = (goal.at.geocentric_at-sun-requires c).After-geocentric_at-arg-1 in
-    ((start m).requires.0, (moment_reached (at m) (moment_is m) (near (start m)), moment_nutation (at m) (moment_is m) (near (start m))))
+    ((start (goal.at.geocentric_at-sun-requires c).After-moment_at-moment).requires.0, (moment_reached (at (goal.at.geocentric_at-sun-requires c).After-moment_at-moment) (moment_is (goal.at.geocentric_at-sun-requires c).After-moment_at-moment) (near (start (goal.at.geocentric_at-sun-requires c).After-moment_at-moment)), moment_nutation (at (goal.at.geocentric_at-sun-requires c).After-moment_at-moment) (moment_is (goal.at.geocentric_at-sun-requires c).After-moment_at-moment) (near (start (goal.at.geocentric_at-sun-requires c).After-moment_at-moment))))
 
 pub geocentric_at-moon-requires : goal.geocentric_at-moon-requires
 geocentric_at-moon-requires c =
-    let m = (goal.at.geocentric_at-moon-requires c).After-struct_told-2-1 in
-    ((start m).requires.0, (moment_reached (at m) (moment_is m) (near (start m)), moment_nutation (at m) (moment_is m) (near (start m))))
+    ((start (goal.at.geocentric_at-moon-requires c).After-moment_at-moment).requires.0, (moment_reached (at (goal.at.geocentric_at-moon-requires c).After-moment_at-moment) (moment_is (goal.at.geocentric_at-moon-requires c).After-moment_at-moment) (near (start (goal.at.geocentric_at-moon-requires c).After-moment_at-moment)), moment_nutation (at (goal.at.geocentric_at-moon-requires c).After-moment_at-moment) (moment_is (goal.at.geocentric_at-moon-requires c).After-moment_at-moment) (near (start (goal.at.geocentric_at-moon-requires c).After-moment_at-moment))))
 
 pub from_surface-to_sun-requires : goal.from_surface-to_sun-requires
 from_surface-to_sun-requires c =
@@ -94,9 +92,8 @@ from_surface-to_sun-requires c =
 
 pub from_surface-to_moon-requires : goal.from_surface-to_moon-requires
 from_surface-to_moon-requires c =
-    let m = (goal.at.from_surface-to_moon-requires c).After-geocentric_at-arg-2-1 in
-    let s = start m in
-    (s.requires.0, centre_parallax (at m) (moment_is m) (near s) Bodies.Moon c.geocentric_at-moon.ensures, (stands s).observer_size)
+    let s = start (goal.at.from_surface-to_moon-requires c).After-geocentric_at-sun in
+    (s.requires.0, centre_parallax (at (goal.at.from_surface-to_moon-requires c).After-geocentric_at-sun) (moment_is (goal.at.from_surface-to_moon-requires c).After-geocentric_at-sun) (near s) Bodies.Moon c.geocentric_at-moon.ensures, (stands s).observer_size)
 
 pub eclipse_of-requires : goal.eclipse_of-requires
 eclipse_of-requires c =

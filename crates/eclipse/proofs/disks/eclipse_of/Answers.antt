@@ -22,16 +22,16 @@ use Rattle.eclipse.proofs.disks.eclipse_of.Goals.{After-moon_radius-rm, After-pl
 -- the separation, the two radii, and what they are within
 module _ (c : After-moon_radius-rm) where
   abbrev placed : After-place_towards-elevation
-  placed = c.before.before
+  placed = (goal.at.After-moon_radius-rm c).After-place_towards-elevation
 
   abbrev sized : After-sun_radius-rs
-  sized = placed.before
+  sized = (goal.at.After-place_towards-elevation placed).After-sun_radius-rs
 
   abbrev parted : After-separation-apart
-  parted = sized.before
+  parted = (goal.at.After-sun_radius-rs sized).After-separation-apart
 
   abbrev start : Start
-  start = parted.before
+  start = (goal.at.After-separation-apart parted).Start
 
   abbrev e : ℤ
   e = (place_towards start.args.latitude start.args.to_moon).elevation
@@ -53,7 +53,7 @@ module _ (c : After-moon_radius-rm) where
 -- the share
 module _ (c : After-share-covered) where
   abbrev before : After-moon_radius-rm
-  before = c.before
+  before = (goal.at.After-share-covered c).After-moon_radius-rm
 
   share_is : c.share-covered.result ≡ share (separation (start before).args.to_sun (start before).args.to_moon) (sun_radius (start before).args.sun) (moon_radius (start before).args.moon (e before))
   share_is = c.share-covered.ensures.value ∙ (λ i. share ((parted before).separation-apart.ensures i) ((sized before).sun_radius-rs.ensures i) (rm_is before i))

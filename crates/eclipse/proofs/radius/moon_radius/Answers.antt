@@ -21,7 +21,7 @@ distance s = field s.args.moon.distance s.requires.1.distant.most tt
 
 module _ (c : After-sine_in-height) where
   abbrev start : Start
-  start = c.before.before.before
+  start = (goal.at.After-sine_in-height c).Start
 
   abbrev height : Mirror
   height = gave {v = sine start.args.elevation} c.sine_in-height.type_inv (c.sine_in-height.ensures ∙ ap sine (any start.ranges.elevation).same) (sine_most start.args.elevation)
@@ -31,7 +31,7 @@ module _ (c : After-sine_in-height) where
 
 module _ (c : After-floor_div-nearer) where
   abbrev lift : Mirror
-  lift = floor_gave (kept (product c.before) tt) 1_000_000_000 c.floor_div-nearer.type_inv c.floor_div-nearer.ensures
+  lift = floor_gave (kept (product (goal.at.After-floor_div-nearer c).After-sine_in-height) tt) 1_000_000_000 c.floor_div-nearer.type_inv c.floor_div-nearer.ensures
 
   abbrev nearer : Mirror
   nearer = kept (lit (pos 1_000_000_000) ⊕ lift) tt

@@ -5,7 +5,7 @@ use Rattle.sky_vectors.proofs.SkyMirror.{x_in, y_in, z_in}
 use Rattle.eclipse.specs.Separation.{cross, minor}
 use Rattle.eclipse.proofs.CrossLaws.{short_small}
 use Rattle.eclipse.proofs.separation.cross.Goals as goal
-use Rattle.eclipse.proofs.separation.cross.Goals.{After-minor, After-minor-2, After-struct_told-12-1, After-struct_told-4-1, After-struct_told-8-1, Start}
+use Rattle.eclipse.proofs.separation.cross.Goals.{After-minor, After-minor-2, Start}
 
 module _ (s : Start) where
   abbrev sx : Mirror
@@ -27,32 +27,32 @@ module _ (s : Start) where
   mz = z_in (short_small s.requires.1) tt
 
 -- four numbers are read for each coordinate
-abbrev first : After-struct_told-4-1 → Start
-first k = k.before.before.before.before
+abbrev first : Start → Start
+first k = k
 
-abbrev second : After-struct_told-8-1 → After-minor
-second k = k.before.before.before.before
+abbrev second : After-minor → After-minor
+second k = k
 
-abbrev third : After-struct_told-12-1 → After-minor-2
-third k = k.before.before.before.before
+abbrev third : After-minor-2 → After-minor-2
+third k = k
 
 pub minor-requires : goal.minor-requires
-minor-requires k = let s = first (goal.at.minor-requires k).After-struct_told-4-1 in (asked (sy s) tt, asked (sz s) tt, asked (my s) tt, asked (mz s) tt)
+minor-requires k = let s = first (goal.at.minor-requires k).Start in (asked (sy s) tt, asked (sz s) tt, asked (my s) tt, asked (mz s) tt)
 
 pub minor-requires-2 : goal.minor-requires-2
-minor-requires-2 k = let s = first (second (goal.at.minor-requires-2 k).After-struct_told-8-1).before in (asked (sz s) tt, asked (sx s) tt, asked (mz s) tt, asked (mx s) tt)
+minor-requires-2 k = let s = first (goal.at.After-minor (second (goal.at.minor-requires-2 k).After-minor)).Start in (asked (sz s) tt, asked (sx s) tt, asked (mz s) tt, asked (mx s) tt)
 
 pub minor-requires-3 : goal.minor-requires-3
-minor-requires-3 k = let s = first (second (third (goal.at.minor-requires-3 k).After-struct_told-12-1).before).before in (asked (sx s) tt, asked (sy s) tt, asked (mx s) tt, asked (my s) tt)
+minor-requires-3 k = let s = first (goal.at.After-minor (second (goal.at.After-minor-2 (third (goal.at.minor-requires-3 k).After-minor-2)).After-minor)).Start in (asked (sx s) tt, asked (sy s) tt, asked (mx s) tt, asked (my s) tt)
 
 pub returns : goal.returns
 unfolding cross
 returns c =
-    let b = third (goal.at.returns c).After-struct_told-12-1 in
-    let a = second b.before in
-    let s = first a.before in
+    let b = third (goal.at.returns c).After-minor-2 in
+    let a = second (goal.at.After-minor-2 b).After-minor in
+    let s = first (goal.at.After-minor a).Start in
     λ i. record {
-      x = passed a.minor.ok (a.minor.ensures ∙ (λ j. minor ((sy s).same j) ((sz s).same j) ((my s).same j) ((mz s).same j))) i;
-      y = passed b.minor-2.ok (b.minor-2.ensures ∙ (λ j. minor ((sz s).same j) ((sx s).same j) ((mz s).same j) ((mx s).same j))) i;
+      x = passed a.minor.type_inv (a.minor.ensures ∙ (λ j. minor ((sy s).same j) ((sz s).same j) ((my s).same j) ((mz s).same j))) i;
+      y = passed b.minor-2.type_inv (b.minor-2.ensures ∙ (λ j. minor ((sz s).same j) ((sx s).same j) ((mz s).same j) ((mx s).same j))) i;
       z = passed c.minor-3.type_inv (c.minor-3.ensures ∙ (λ j. minor ((sx s).same j) ((sy s).same j) ((mx s).same j) ((my s).same j))) i;
     }

@@ -16,20 +16,18 @@ module _ (s : Start) where
   moon = short_small s.requires.1
 
 abbrev first : After-product → Start
-first a = a.before.before.before
+first a = (goal.at.After-product a).Start
 
 abbrev flat : After-product-2 → Mirror
 flat b =
-    let a = b.before.before.before in
-    let s = first a in
-    product_gave (x_in (sun s) tt) (x_in (moon s) tt) a.product.type_inv a.product.ensures
+    let s = first (goal.at.After-product-2 b).After-product in
+    product_gave (x_in (sun s) tt) (x_in (moon s) tt) b.product.type_inv b.product.ensures
     ⊕ product_gave (y_in (sun s) tt) (y_in (moon s) tt) b.product-2.type_inv b.product-2.ensures
 
 abbrev result : After-product-3 → Mirror
 result c =
-    let b = c.before.before.before in
-    let s = first b.before.before.before in
-    kept (flat b) tt ⊕ product_gave (z_in (sun s) tt) (z_in (moon s) tt) c.product-3.type_inv c.product-3.ensures
+    let s = first (goal.at.After-product-3 c).After-product in
+    kept (flat (goal.at.After-product-3 c).After-product-2) tt ⊕ product_gave (z_in (sun s) tt) (z_in (moon s) tt) c.product-3.type_inv c.product-3.ensures
 
 pub product-requires : goal.product-requires
 product-requires c = let s = (goal.at.product-requires c).Start in (asked (x_in (sun s) tt) tt, asked (x_in (moon s) tt) tt)

@@ -14,7 +14,7 @@ use Rattle.sky_vectors.proofs.SkyMirror.{square_cast, square_is, x_in, y_in, z_i
 use Rattle.eclipse.specs.EclipseRange.{cross_limit}
 use Rattle.eclipse.specs.Separation.{length}
 use Rattle.eclipse.proofs.separation.length.Goals as goal
-use Rattle.eclipse.proofs.separation.length.Goals.{After-struct_told-3-1, Start}
+use Rattle.eclipse.proofs.separation.length.Goals.{Start}
 
 module _ (v : Vector) (w : SmallVector cross_limit v) where
   abbrev x : Mirror
@@ -46,33 +46,33 @@ module _ (v : Vector) (w : SmallVector cross_limit v) where
       (λ i. nat_abs ((xx.same ∙ square_is v.x) i) + nat_abs ((yy.same ∙ square_is v.y) i) + nat_abs ((zz.same ∙ square_is v.z) i))
       ∙ (λ i. nat_abs (sym (square_is v.x) i +ℤ sym (square_is v.y) i +ℤ sym (square_is v.z) i))
 
-abbrev start : After-struct_told-3-1 → Start
-start k = k.before.before.before
+abbrev start : Start → Start
+start k = k
 
 pub overflow_mul-x : goal.overflow_mul-x
-overflow_mul-x c = let a = start (goal.at.overflow_mul-x c).After-struct_told-3-1 in fits (x a.args.vector a.requires ⊗ x a.args.vector a.requires) tt
+overflow_mul-x c = let a = start (goal.at.overflow_mul-x c).Start in fits (x a.args.vector a.requires ⊗ x a.args.vector a.requires) tt
 
 pub overflow_cast-x : goal.overflow_cast-x
-overflow_cast-x c = let a = start (goal.at.overflow_cast-x c).After-struct_told-3-1 in square_cast (x a.args.vector a.requires) tt (xx a.args.vector a.requires).same
+overflow_cast-x c = let a = start (goal.at.overflow_cast-x c).Start in square_cast (x a.args.vector a.requires) tt (xx a.args.vector a.requires).same
 
 pub overflow_mul-y : goal.overflow_mul-y
-overflow_mul-y c = let a = start (goal.at.overflow_mul-y c).After-struct_told-3-1 in fits (y a.args.vector a.requires ⊗ y a.args.vector a.requires) tt
+overflow_mul-y c = let a = start (goal.at.overflow_mul-y c).Start in fits (y a.args.vector a.requires ⊗ y a.args.vector a.requires) tt
 
 pub overflow_cast-y : goal.overflow_cast-y
-overflow_cast-y c = let a = start (goal.at.overflow_cast-y c).After-struct_told-3-1 in square_cast (y a.args.vector a.requires) tt (yy a.args.vector a.requires).same
+overflow_cast-y c = let a = start (goal.at.overflow_cast-y c).Start in square_cast (y a.args.vector a.requires) tt (yy a.args.vector a.requires).same
 
 pub overflow_add-x : goal.overflow_add-x
-overflow_add-x c = two_fit (start (goal.at.overflow_add-x c).After-struct_told-3-1).args.vector (start (goal.at.overflow_add-x c).After-struct_told-3-1).requires
+overflow_add-x c = two_fit (start (goal.at.overflow_add-x c).Start).args.vector (start (goal.at.overflow_add-x c).Start).requires
 
 pub overflow_mul-z : goal.overflow_mul-z
-overflow_mul-z c = let a = start (goal.at.overflow_mul-z c).After-struct_told-3-1 in fits (z a.args.vector a.requires ⊗ z a.args.vector a.requires) tt
+overflow_mul-z c = let a = start (goal.at.overflow_mul-z c).Start in fits (z a.args.vector a.requires ⊗ z a.args.vector a.requires) tt
 
 pub overflow_cast-z : goal.overflow_cast-z
-overflow_cast-z c = let a = start (goal.at.overflow_cast-z c).After-struct_told-3-1 in square_cast (z a.args.vector a.requires) tt (zz a.args.vector a.requires).same
+overflow_cast-z c = let a = start (goal.at.overflow_cast-z c).Start in square_cast (z a.args.vector a.requires) tt (zz a.args.vector a.requires).same
 
 pub overflow_add-x-2 : goal.overflow_add-x-2
-overflow_add-x-2 c = three_fit (start (goal.at.overflow_add-x-2 c).After-struct_told-3-1).args.vector (start (goal.at.overflow_add-x-2 c).After-struct_told-3-1).requires
+overflow_add-x-2 c = three_fit (start (goal.at.overflow_add-x-2 c).Start).args.vector (start (goal.at.overflow_add-x-2 c).Start).requires
 
 pub returns : goal.returns
 unfolding length
-returns c = c.root.ensures ∙ ap root (sum_is (start (goal.at.returns c).After-struct_told-3-1).args.vector (start (goal.at.returns c).After-struct_told-3-1).requires)
+returns c = c.root.ensures ∙ ap root (sum_is (start (goal.at.returns c).Start).args.vector (start (goal.at.returns c).Start).requires)

@@ -20,8 +20,7 @@ module _ (s : Start) where
 
 abbrev result : After-product-2 → Mirror
 result c =
-    let s = c.before.before in
-    product_gave (s1 s) (m2 s) c.product.type_inv c.product.ensures ⊖ product_gave (s2 s) (m1 s) c.product-2.type_inv c.product-2.ensures
+    product_gave (s1 (goal.at.After-product-2 c).Start) (m2 (goal.at.After-product-2 c).Start) c.product.type_inv c.product.ensures ⊖ product_gave (s2 (goal.at.After-product-2 c).Start) (m1 (goal.at.After-product-2 c).Start) c.product-2.type_inv c.product-2.ensures
 
 pub product-requires : goal.product-requires
 product-requires s = (asked (s1 (goal.at.product-requires s).Start) tt, asked (m2 (goal.at.product-requires s).Start) tt)

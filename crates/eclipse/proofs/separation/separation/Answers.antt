@@ -14,7 +14,7 @@ use Rattle.eclipse.proofs.separation.separation.Goals.{After-length-across, Star
 
 module _ (c : After-length-across) where
   abbrev s : Start
-  s = c.before.before
+  s = (goal.at.After-length-across c).Start
 
   across_is : c.length-across.result ≡ length (cross s.args.sun s.args.moon)
   across_is = c.length-across.ensures ∙ ap length c.cross.ensures

@@ -27,13 +27,13 @@ appended_number-requires c = omega (arith, word_room (goal.at.appended_number-re
 pub appended_byte-requires : goal.appended_byte-requires
 appended_byte-requires c =
     let n = (goal.at.appended_byte-requires c).After-number_of in
-    omega (arith, word_room n.before, number_room decimal whole_short (from_nat (number_most n) tt) tt c.appended_number.ensures)
+    omega (arith, word_room (goal.at.After-number_of n).After-appended_bytes-word, number_room decimal whole_short (from_nat (number_most n) tt) tt c.appended_number.ensures)
 
 pub returns : goal.returns
 unfolding refusal_line bytes
 returns c =
     let n = (goal.at.returns c).After-number_of in
-    let w = n.before in
+    let w = (goal.at.After-number_of n).After-appended_bytes-word in
     let number = field decimal whole_short (from_nat (number_most n) tt) tt c.appended_number.ensures c.appended_byte.ensures in
     let last = field_room decimal whole_short (from_nat (number_most n) tt) tt c.appended_number.ensures c.appended_byte.ensures in record {
       result_value = from_empty w.empty.ensures (appended_twice w.appended_bytes-word.ensures number) ∙ ap refusal_line n.number_of.ensures;

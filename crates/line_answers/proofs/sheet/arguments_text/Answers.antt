@@ -11,7 +11,7 @@ use Rattle.line_answers.proofs.PrintedLaws.{field, field_room, from_empty, none_
 use Rattle.line_answers.proofs.SheetLaws.{fields_line}
 use borrow.Author.Rules.{rules}
 use Rattle.line_answers.proofs.sheet.arguments_text.Goals as goal
-use Rattle.line_answers.proofs.sheet.arguments_text.Goals.{After-appended_byte-first, After-appended_byte-second, Start}
+use Rattle.line_answers.proofs.sheet.arguments_text.Goals.{After-appended_byte-first, After-appended_byte-second, After-empty, Start}
 
 module _ (s : Start) where
   tt_fits : SFits w64 s.args.found.tt
@@ -25,14 +25,11 @@ module _ (s : Start) where
 
 first_room : (c : After-appended_byte-first) → c.appended_byte-first.result.length ≤ 23
 first_room c =
-    let e = c.before.before.before in
-    omega (arith, none_used e.empty.ensures, field_room decimal whole_short (any (tt_fits e.before)) tt c.appended_number.ensures c.appended_byte-first.ensures)
+    omega (arith, none_used c.empty.ensures, field_room decimal whole_short (any (tt_fits (goal.at.After-appended_byte-first c).Start)) tt c.appended_number.ensures c.appended_byte-first.ensures)
 
 second_room : (c : After-appended_byte-second) → c.appended_byte-second.result.length ≤ 46
 second_room c =
-    let f = c.before.before.before in
-    let s = f.before.before.before.before in
-    omega (arith, first_room f, field_room decimal whole_short (any (longitude_fits s)) tt c.appended_number-2.ensures c.appended_byte-second.ensures)
+    omega (arith, first_room (goal.at.After-appended_byte-second c).After-appended_byte-first, field_room decimal whole_short (any (longitude_fits (goal.at.After-appended_byte-second c).Start)) tt c.appended_number-2.ensures c.appended_byte-second.ensures)
 
 pub appended_number-requires : goal.appended_number-requires
 appended_number-requires c = omega (arith, none_used c.empty.ensures)
@@ -40,7 +37,7 @@ appended_number-requires c = omega (arith, none_used c.empty.ensures)
 pub appended_byte-first-requires : goal.appended_byte-first-requires
 appended_byte-first-requires c =
     let e = (goal.at.appended_byte-first-requires c).After-empty in
-    omega (arith, none_used e.empty.ensures, number_room decimal whole_short (any (tt_fits e.before)) tt c.appended_number.ensures)
+    omega (arith, none_used e.empty.ensures, number_room decimal whole_short (any (tt_fits (goal.at.After-empty e).Start)) tt c.appended_number.ensures)
 
 pub appended_number-requires-2 : goal.appended_number-requires-2
 appended_number-requires-2 c = omega (arith, first_room (goal.at.appended_number-requires-2 c).After-appended_byte-first)
@@ -48,7 +45,7 @@ appended_number-requires-2 c = omega (arith, first_room (goal.at.appended_number
 pub appended_byte-second-requires : goal.appended_byte-second-requires
 appended_byte-second-requires c =
     let f = (goal.at.appended_byte-second-requires c).After-appended_byte-first in
-    let s = f.before.before.before.before in
+    let s = (goal.at.After-appended_byte-first f).Start in
     omega (arith, first_room f, number_room decimal whole_short (any (longitude_fits s)) tt c.appended_number-2.ensures)
 
 pub appended_number-requires-3 : goal.appended_number-requires-3
@@ -57,15 +54,15 @@ appended_number-requires-3 c = omega (arith, second_room (goal.at.appended_numbe
 pub appended_byte-requires : goal.appended_byte-requires
 appended_byte-requires c =
     let g = (goal.at.appended_byte-requires c).After-appended_byte-second in
-    let s = g.before.before.before.before.before.before.before in
+    let s = (goal.at.After-appended_byte-second g).Start in
     omega (arith, second_room g, number_room decimal whole_short (any (sidereal_fits s)) tt c.appended_number-3.ensures)
 
 pub returns : goal.returns
 returns c =
     let g = (goal.at.returns c).After-appended_byte-second in
-    let f = g.before.before.before in
-    let e = f.before.before.before in
-    let s = e.before in
+    let f = (goal.at.After-appended_byte-second g).After-appended_byte-first in
+    let e = (goal.at.After-appended_byte-first f).After-empty in
+    let s = (goal.at.After-empty e).Start in
     let first = field decimal whole_short (any (tt_fits s)) tt f.appended_number.ensures f.appended_byte-first.ensures in
     let second = field decimal whole_short (any (longitude_fits s)) tt g.appended_number-2.ensures g.appended_byte-second.ensures in
     let third = field decimal whole_short (any (sidereal_fits s)) tt c.appended_number-3.ensures c.appended_byte.ensures in

@@ -1,6 +1,5 @@
 -- `sky::answer::place` meets its contract.
 use Rattle.sky.proofs.Demand3.{every_place_near}
-use borrow.Author.Rules.{rules}
 use Rattle.sky.proofs.answer.place.Goals as goal
 
 pub returns : goal.returns

@@ -3,7 +3,6 @@ use mathlib.Core.List.{◌++◌}
 use Rattle.calendar.proofs.RefusalLaws.{joined}
 use Rattle.refraction.specs.Air.{air_refusals}
 use Rattle.request.specs.Request.{point_refusals, start_refusals}
-use borrow.Author.Rules.{rules}
 use Rattle.sky.proofs.answer.request_verdict.Goals as goal
 
 pub returns : goal.returns

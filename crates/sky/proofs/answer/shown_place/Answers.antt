@@ -9,7 +9,6 @@ use Rattle.request.specs.Request.{instant}
 use Rattle.sky.specs.Shown.{nothing_shown, shown}
 use Rattle.sky.proofs.AnswerLaws.{judged_refusal, judged_value, judged_zeros, found_in_turns, one_shown, place_found, place_passes}
 use Rattle.sky.proofs.Demand3.{every_place_near}
-use borrow.Author.Rules.{rules}
 use Rattle.sky.proofs.answer.shown_place.Goals as goal
 use Rattle.sky.proofs.answer.shown_place.Goals.{In-Refused, In-Seen, Start}
 

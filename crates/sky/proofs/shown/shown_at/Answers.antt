@@ -2,7 +2,6 @@
 use mathlib.Core.Path.{◌∙◌, ap}
 use lib.Dec.{lit≤}
 use lib.IntN.{pos}
-use borrow.Author.Rules.{rules}
 use Rattle.arctangent.proofs.ArctangentLaws.{angle_most}
 use Rattle.numbers.proofs.Machine.{Mirror, asked, field, gave}
 use Rattle.refraction.specs.Double.{◌+d◌}
