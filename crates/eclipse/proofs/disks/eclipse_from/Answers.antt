@@ -18,7 +18,7 @@ use Rattle.eclipse.specs.Eclipse.{eclipse_from, eclipse_of}
 use Rattle.eclipse.specs.EclipseRange.{MoonFar, ShortVector, SunFar}
 use Rattle.eclipse.proofs.DirectionLaws.{direction_short, moon_far, sun_far}
 use Rattle.eclipse.proofs.disks.eclipse_from.Goals as goal
-use Rattle.eclipse.proofs.disks.eclipse_from.Goals.{After-from_surface-to_moon, After-geocentric_at-sun, After-moment_at-moment, Start}
+use Rattle.eclipse.proofs.disks.eclipse_from.Goals.{After-from_surface-to_moon, After-moment_at-moment, Start}
 
 module _ (s : Start) where
   abbrev runner : Runner
@@ -59,7 +59,7 @@ module _ (c : After-moment_at-moment) where
 -- both bodies, and both directions
 module _ (c : After-from_surface-to_moon) where
   abbrev k : After-moment_at-moment
-  k = (goal.at.After-from_surface-to_moon c).After-geocentric_at-sun
+  k = (goal.at.After-from_surface-to_moon c).After-moment_at-moment
 
   sun_is : c.geocentric_at-sun.result ≡ geocentric Bodies.Sun (instant (start k)).tt
   sun_is = body_is k Bodies.Sun c.geocentric_at-sun.ensures
@@ -86,14 +86,14 @@ geocentric_at-moon-requires c =
 
 pub from_surface-to_sun-requires : goal.from_surface-to_sun-requires
 from_surface-to_sun-requires c =
-    let m = (goal.at.from_surface-to_sun-requires c).After-geocentric_at-sun in
+    let m = (goal.at.from_surface-to_sun-requires c).After-moment_at-moment in
     let s = start m in
     (s.requires.0, centre_parallax (at m) (moment_is m) (near s) Bodies.Sun c.geocentric_at-sun.ensures, (stands s).observer_size)
 
 pub from_surface-to_moon-requires : goal.from_surface-to_moon-requires
 from_surface-to_moon-requires c =
-    let s = start (goal.at.from_surface-to_moon-requires c).After-geocentric_at-sun in
-    (s.requires.0, centre_parallax (at (goal.at.from_surface-to_moon-requires c).After-geocentric_at-sun) (moment_is (goal.at.from_surface-to_moon-requires c).After-geocentric_at-sun) (near s) Bodies.Moon c.geocentric_at-moon.ensures, (stands s).observer_size)
+    let s = start (goal.at.from_surface-to_moon-requires c).After-moment_at-moment in
+    (s.requires.0, centre_parallax (at (goal.at.from_surface-to_moon-requires c).After-moment_at-moment) (moment_is (goal.at.from_surface-to_moon-requires c).After-moment_at-moment) (near s) Bodies.Moon c.geocentric_at-moon.ensures, (stands s).observer_size)
 
 pub eclipse_of-requires : goal.eclipse_of-requires
 eclipse_of-requires c =

@@ -12,7 +12,7 @@ use Rattle.turning_points.proofs.arc.value_on.Goals.{After-clockwise-arc, Start}
 -- the arc
 module _ (c : After-clockwise-arc) where
   abbrev s : Start
-  s = c.before.before
+  s = (goal.at.After-clockwise-arc c).Start
 
   arc_is : c.clockwise-arc.result ≡ arc s.args.leg
   arc_is = c.clockwise-arc.ensures

@@ -19,7 +19,7 @@ use Rattle.turning_points.proofs.points.are_reduced.Goals.{After-is_reduced, At-
 -- what the test told of the entry
 module _ (c : After-is_reduced) where
   abbrev l : At-loop-index
-  l = c.before.before.before
+  l = (goal.at.After-is_reduced c).At-loop-index
 
   entry_fits : SFits w64 (get_or l.args.azimuths.now l.loop-index.index (pos 0))
   entry_fits = search rules
@@ -35,10 +35,10 @@ pub returns-then-not-is_reduced : goal.returns-then-not-is_reduced
 unfolding are_reduced
 returns-then-not-is_reduced c =
     let azimuths = (l (goal.at.returns-then-not-is_reduced c).After-is_reduced).args.azimuths.now in
-    sym (somewhere (not_reduced azimuths) (length azimuths) (l (goal.at.returns-then-not-is_reduced c).After-is_reduced).loop-index.index (omega arith) (told (goal.at.returns-then-not-is_reduced c).After-is_reduced ∙ c.if-not-is_reduced.true))
+    sym (somewhere (not_reduced azimuths) (length azimuths) (l (goal.at.returns-then-not-is_reduced c).After-is_reduced).loop-index.index (omega arith) (told (goal.at.returns-then-not-is_reduced c).After-is_reduced ∙ ap not c.if-not-is_reduced.true))
 
 pub loop-index-preserved : goal.loop-index-preserved
-loop-index-preserved c = (omega arith, below_more _ _ (l (goal.at.loop-index-preserved c).After-is_reduced).loop-index.invariant.1 (told (goal.at.loop-index-preserved c).After-is_reduced ∙ c.if-not-is_reduced.false))
+loop-index-preserved c = (omega arith, below_more _ _ (l (goal.at.loop-index-preserved c).After-is_reduced).loop-index.invariant.1 (told (goal.at.loop-index-preserved c).After-is_reduced ∙ ap not c.if-not-is_reduced.false))
 
 pub returns : goal.returns
 unfolding are_reduced

@@ -11,17 +11,10 @@ use Rattle.heading.specs.Heading.{is_reduced}
 use Rattle.numbers.proofs.Machine.{any, to_nat}
 use Rattle.turning_points.proofs.PointLaws.{reduced_at}
 use Rattle.turning_points.proofs.points.azimuth_at.Goals as goal
-use Rattle.turning_points.proofs.points.azimuth_at.Goals.{After-result-1}
-
--- the entry that is read
-module _ (c : After-result-1) where
-  abbrev entry : ℤ
-  entry = get_or c.args.azimuths.now c.args.index (pos 0)
-
-  entry_fits : SFits w64 entry
-  entry_fits = search rules
 
 pub overflow_cast-result : goal.overflow_cast-result
 overflow_cast-result c =
+    let entry = get_or c.args.azimuths.now c.args.index (pos 0) in
+    let fits : SFits w64 entry = search rules in
     let reduced = reduced_at c.args.azimuths.now c.requires.0 c.args.index c.requires.1 in
-    to_nat ((any (entry_fits (goal.at.overflow_cast-result c).After-result-1)).same ∙ natural (entry (goal.at.overflow_cast-result c).After-result-1) reduced) (omega (arith, below_turn (entry (goal.at.overflow_cast-result c).After-result-1) reduced))
+    to_nat ((any fits).same ∙ natural entry reduced) (omega (arith, below_turn entry reduced))

@@ -4,4 +4,4 @@ use borrow.Author.Rules.{rules}
 use Rattle.turning_points.proofs.points.minute_at.Goals as goal
 
 pub overflow_cast-result : goal.overflow_cast-result
-overflow_cast-result c = omega (arith, c.type_inv.minutes.given c.args.index)
+overflow_cast-result c = omega (arith, c.type_inv.minutes c.args.index)
