@@ -1,11 +1,9 @@
 -- The short way round: its sizes, and a value on a leg in numbers that are never below zero.
-use mathlib.Core.Bool.{false}
 use mathlib.Core.Path.{◌∙◌, ◌≡◌, ap, refl, sym}
 use Prim.Native.Nat.{◌%◌, ◌*◌, ◌+◌, ◌-◌, ◌/◌, ◌<◌, ◌≤◌, ℕ}
 use native.Mathlib.Nat.{add_comm, add-mul-div_right, div-add-mod, div-eq_of_lt, div-le_of_le-mul, mod-lt, mul_comm, mul-div_cancel, mul-le-mul, mul-le-mul_left, mul-le-mul_right, zero-add, zero-lt-suc}
 use native.Mathlib.Decide.{dec_lt}
 use native.Mathlib.Omega.{arith}
-use lib.Dec.{ltb}
 use lib.IntN.{◌*ℤ◌, ◌+ℤ◌, neg_ℤ, pos, ℤ}
 use borrow.Author.Tests.{le-leb, le-ltb, lt-leb, lt-ltb}
 use Rattle.arithmetic.proofs.Difference.{#◌, ◌⊞◌, ◌⊠◌, by_eq, ⊟◌}

@@ -1,6 +1,5 @@
 -- `eclipse::disks::eclipse_at` meets its contract.
 use mathlib.Core.Path.{◌∙◌, subst⁻¹}
-use borrow.Author.Rules.{rules}
 use Rattle.sky_vectors.specs.SkyRange.{Standing}
 use Rattle.sky_vectors.proofs.SkySizes.{runner_stands}
 use Rattle.eclipse.specs.Eclipse.{eclipse_at, eclipse_from}

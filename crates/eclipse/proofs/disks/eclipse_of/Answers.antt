@@ -2,7 +2,6 @@
 use mathlib.Core.Path.{◌∙◌, ◌≡◌, ap, subst⁻¹}
 use Prim.Native.Nat.{◌≤◌, ℕ}
 use lib.IntN.{pos, ℤ}
-use borrow.Author.Rules.{rules}
 use Rattle.number_rules.specs.Angle.{half_turn}
 use Rattle.numbers.proofs.Machine.{from_nat, nat_fits, told}
 use Rattle.overlap.proofs.ShareHolds.{every_share_holds}

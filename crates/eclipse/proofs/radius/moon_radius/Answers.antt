@@ -5,7 +5,6 @@ use native.Mathlib.Omega.{arith}
 use lib.Dec.{T}
 use lib.IntN.{nat_abs, pos, ℤ}
 use lib.Signed.{non_neg}
-use borrow.Author.Rules.{rules}
 use Rattle.arithmetic.proofs.Sizes.{at_least}
 use Rattle.number_rules.specs.Sine.{sine}
 use Rattle.number_rules.proofs.SineSize.{sine_most}

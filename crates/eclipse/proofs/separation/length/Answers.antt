@@ -5,7 +5,6 @@ use native.Mathlib.Omega.{arith}
 use lib.IntN.{nat_abs, ◌*ℤ◌, ◌+ℤ◌}
 use mir.Syntax.{w64}
 use mir.Val.{Fits}
-use borrow.Author.Rules.{rules}
 use Rattle.numbers.specs.Root.{root}
 use Rattle.numbers.proofs.Machine.{Mirror, ◌⊗◌, fits, kept}
 use Rattle.sky_vectors.specs.SkyRange.{SmallVector}

@@ -1,5 +1,4 @@
 -- `eclipse::separation::product` meets its contract.
-use borrow.Author.Rules.{rules}
 use Rattle.numbers.proofs.Machine.{Mirror, ◌⊗◌, arg, fits, floor_gave, kept}
 use Rattle.sky_vectors.specs.Product.{◌·◌}
 use Rattle.eclipse.proofs.separation.product.Goals as goal

@@ -2,7 +2,6 @@
 use mathlib.Core.Path.{◌∙◌, ◌≡◌, ap, ap₂, subst⁻¹}
 use Prim.Native.Nat.{◌≤◌, ℕ}
 use lib.IntN.{pos}
-use borrow.Author.Rules.{rules}
 use Rattle.numbers.proofs.Machine.{from_nat, nat_fits, passed}
 use Rattle.overlap.specs.ShortArctangent.{short_arctangent}
 use Rattle.sky_vectors.specs.SkyRange.{SmallVector}

@@ -2,7 +2,6 @@
 use mathlib.Core.Path.{ap}
 use Prim.Native.Nat.{ℕ}
 use lib.Dec.{eqb}
-use borrow.Author.Rules.{rules}
 use Rattle.number_rules.specs.Angle.{half_turn}
 use Rattle.turning_points.specs.Arc.{are_opposite}
 use Rattle.turning_points.proofs.arc.are_opposite.Goals as goal

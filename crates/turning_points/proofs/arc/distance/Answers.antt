@@ -1,6 +1,5 @@
 -- `arc::distance` meets its contract.
 use native.Mathlib.Omega.{arith}
-use borrow.Author.Rules.{rules}
 use Rattle.turning_points.proofs.ArcLaws.{clockwise_below, distance_far, distance_near}
 use Rattle.turning_points.proofs.arc.distance.Goals as goal
 

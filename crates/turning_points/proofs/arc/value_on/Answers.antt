@@ -2,8 +2,6 @@
 use mathlib.Core.Path.{◌≡◌, sym}
 use Prim.Native.Nat.{◌-◌, ◌<◌}
 use native.Mathlib.Omega.{arith}
-use borrow.Author.Rules.{rules}
-use Rattle.heading.specs.Heading.{clockwise}
 use Rattle.number_rules.specs.Angle.{full_turn}
 use Rattle.turning_points.proofs.ArcLaws.{ahead, arc, back_most, behind, clockwise_below, part_most, product_most}
 use Rattle.turning_points.proofs.arc.value_on.Goals as goal

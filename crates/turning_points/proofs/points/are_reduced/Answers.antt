@@ -1,9 +1,8 @@
 -- `points::are_reduced` meets its contract.
-use mathlib.Core.Bool.{false, not}
+use mathlib.Core.Bool.{not}
 use mathlib.Core.Path.{◌∙◌, ◌≡◌, ap, sym}
-use Prim.Native.Nat.{◌-◌, ◌<◌, ◌≤◌, ℕ}
 use native.Mathlib.Omega.{arith}
-use lib.IntN.{pos, ℤ}
+use lib.IntN.{pos}
 use lib.ListN.{get_or, length}
 use borrow.Author.Count.{below_more}
 use borrow.Author.Rules.{rules}

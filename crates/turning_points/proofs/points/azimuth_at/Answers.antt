@@ -1,13 +1,12 @@
 -- `points::azimuth_at` meets its contract.
-use mathlib.Core.Path.{◌∙◌, ◌≡◌}
+use mathlib.Core.Path.{◌∙◌}
 use native.Mathlib.Omega.{arith}
-use lib.IntN.{pos, ℤ}
+use lib.IntN.{pos}
 use lib.ListN.{get_or}
 use borrow.Author.Rules.{rules}
 use mir.Syntax.{w64}
 use mir.Val.{SFits}
 use Rattle.heading.proofs.HeadingLaws.{below_turn, natural}
-use Rattle.heading.specs.Heading.{is_reduced}
 use Rattle.numbers.proofs.Machine.{any, to_nat}
 use Rattle.turning_points.proofs.PointLaws.{reduced_at}
 use Rattle.turning_points.proofs.points.azimuth_at.Goals as goal

@@ -1,8 +1,6 @@
 -- `points::is_formed` meets its contract.
 use mathlib.Core.Path.{◌∙◌, refl, sym}
 use native.Mathlib.Omega.{arith}
-use borrow.Author.Rules.{rules}
-use borrow.Author.Tests.{not-false, not-true}
 use Rattle.turning_points.specs.Points.{is_formed}
 use Rattle.turning_points.proofs.PointLaws.{counted}
 use Rattle.turning_points.proofs.points.is_formed.Goals as goal

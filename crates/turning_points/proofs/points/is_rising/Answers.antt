@@ -1,9 +1,8 @@
 -- `points::is_rising` meets its contract.
-use mathlib.Core.Path.{◌∙◌, refl, sym}
+use mathlib.Core.Path.{refl, sym}
 use Prim.Native.Nat.{◌-◌}
 use native.Mathlib.Omega.{arith}
 use lib.ListN.{length}
-use borrow.Author.Rules.{rules}
 use borrow.Author.Tests.{eq-eqb, ne_eqb}
 use Rattle.day.specs.Curve.{last_minute}
 use Rattle.turning_points.specs.Points.{at, is_rising}

@@ -1,6 +1,4 @@
 -- `points::leg_at` meets its contract.
-use borrow.Author.Rules.{rules}
-use Rattle.turning_points.specs.declared.arc.Leg.{Leg}
 use Rattle.turning_points.proofs.points.leg_at.Goals as goal
 
 pub returns : goal.returns

@@ -1,6 +1,5 @@
 -- `points::minute_at` meets its contract.
 use native.Mathlib.Omega.{arith}
-use borrow.Author.Rules.{rules}
 use Rattle.turning_points.proofs.points.minute_at.Goals as goal
 
 pub overflow_cast-result : goal.overflow_cast-result

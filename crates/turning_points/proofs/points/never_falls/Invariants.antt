@@ -1,13 +1,8 @@
 use mathlib.Core.Bool.{false}
-use mathlib.Core.Path.{◌≡◌, sym}
-use Prim.Native.Nat.{◌+◌, ◌-◌, ◌<◌, ◌≤◌, ℕ}
-use native.Mathlib.Omega.{arith}
+use mathlib.Core.Path.{◌≡◌}
+use Prim.Native.Nat.{◌-◌, ◌<◌, ◌≤◌, ℕ}
 use lib.ListN.{length}
-use borrow.Author.Count.{below_more}
-use borrow.Author.Rules.{rules}
-use borrow.Author.Tests.{le-leb, lt-leb}
-use Rattle.turning_points.specs.Points.{at, falls, never_falls}
-use Rattle.turning_points.proofs.SearchLaws.{is_nowhere, somewhere}
+use Rattle.turning_points.specs.Points.{falls}
 use Rattle.turning_points.proofs.points.never_falls.Given as goal
 
 abbrev pub invariant-loop-index : goal.invariant-loop-index
