@@ -10,7 +10,6 @@ use borrow.Author.Tests.{le-ltb, ltb-false}
 use Rattle.arctangent.specs.declared.direction.Direction.{Direction}
 use Rattle.arctangent.specs.declared.direction.Direction.TheVariants.{None, Towards}
 use Rattle.calendar.proofs.RefusalLaws.{none_append}
-use Rattle.calendar.specs.Refusal.{first}
 use Rattle.day.proofs.SearchLaws.{clash}
 use Rattle.day.specs.Curve.{azimuth_on, minutes}
 use Rattle.day.specs.Date.{day_refusals}
@@ -20,7 +19,7 @@ use Rattle.sky_vectors.specs.declared.geocentric.Body.{Body}
 use Rattle.sky_vectors.specs.declared.station.Point.{Point}
 use Rattle.turning_points.proofs.PointLaws.{formed_when, never_opposite, turned_apart, well_formed}
 use Rattle.turning_points.specs.Arc.{distance}
-use Rattle.proposal.specs.Claims.{EveryFirstNamed, EveryProposalJudged, FirstNamed, Fits, Within}
+use Rattle.proposal.specs.Claims.{EveryFirstNamed, EveryProposalJudged, Fits, Within}
 use Rattle.proposal.specs.Verdict.{JudgementAnswer, first_out, is_out, judgement, out_at, proposal_refusals, value_at}
 use Rattle.proposal.proofs.VerdictLaws.{Unrefused, accepted_when, all_passed, before_31_below, fails_before, holds_there, out_most, unrefused}
 

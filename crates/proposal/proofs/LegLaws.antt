@@ -1,5 +1,5 @@
 -- The leg on which a minute lies: there is one on a well-formed proposal, and it is that of the minute before or the next.
-use mathlib.Core.Bool.{Bool, false, true}
+use mathlib.Core.Bool.{Bool, false}
 use mathlib.Core.List.{List}
 use mathlib.Core.Path.{◌∙◌, ◌≡◌, ap, refl, subst⁻¹, sym}
 use Prim.Native.Nat.{◌+◌, ◌-◌, ◌<◌, ◌≤◌, suc, zero, zero-le, ℕ}
@@ -9,8 +9,8 @@ use lib.Dec.{leb}
 use lib.IntN.{ℤ}
 use lib.ListN.{length}
 use borrow.Author.Tests.{le-leb, leb-false, leb-true, lt-leb}
-use Rattle.day.proofs.SearchLaws.{before, clash, is_first, most, there}
-use Rattle.day.specs.Curve.{last_minute, minutes}
+use Rattle.day.proofs.SearchLaws.{before, is_first, there}
+use Rattle.day.specs.Curve.{minutes}
 use Rattle.day.specs.Search.{first_where}
 use Rattle.heading.proofs.HeadingLaws.{below_turn}
 use Rattle.turning_points.proofs.ArcLaws.{at_start}

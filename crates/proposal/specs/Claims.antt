@@ -11,7 +11,7 @@ use Rattle.sky_vectors.specs.declared.geocentric.Body.{Body}
 use Rattle.sky_vectors.specs.declared.station.Point.{Point}
 use Rattle.turning_points.specs.Arc.{distance}
 use Rattle.turning_points.specs.Formed.{NeverOpposite, WellFormed}
-use Rattle.proposal.specs.Verdict.{JudgementAnswer, judgement, value_at}
+use Rattle.proposal.specs.Verdict.{judgement, value_at}
 
 -- a minute's value is within the tolerance, the short way round, of the azimuth worked for it, where there is one
 abbrev pub Within : ℕ → (ℕ → Direction) → List ℕ → List ℤ → ℕ → Type 0

@@ -6,7 +6,6 @@ use native.Mathlib.Omega.{arith}
 use lib.IntN.{ℤ}
 use lib.ListN.{length}
 use borrow.Author.Count.{below_more}
-use borrow.Author.Rules.{rules}
 use mir.Syntax.{w64}
 use mir.Val.{of_z, to_z}
 use mir.ValLaws.{to_z-of_z}
@@ -28,7 +27,7 @@ use Rattle.turning_points.specs.declared.arc.Leg.{Leg}
 use Rattle.proposal.specs.Verdict.{first_out, is_out, leg_of, out_at, value_at}
 use Rattle.proposal.proofs.LegLaws.{leg_start, leg_there, on_leg_of}
 use Rattle.proposal.proofs.judge.first_out.Goals as goal
-use Rattle.proposal.proofs.judge.first_out.Goals.{After-azimuth_from-worked, After-is_out, After-leg_at, After-next_leg-leg, At-loop-minute, Start}
+use Rattle.proposal.proofs.judge.first_out.Goals.{After-azimuth_from-worked, After-is_out, After-leg_at, After-next_leg-leg, After-value_on-value, At-loop-minute, Start}
 
 module _ (s : Start) where
   well : WellFormed s.args.minutes.now s.args.azimuths.now
@@ -58,10 +57,10 @@ module _ (s : Start) where
 -- a turn
 module _ (c : After-next_leg-leg) where
   abbrev l : At-loop-minute
-  l = c.before.before
+  l = (goal.at.After-next_leg-leg c).At-loop-minute
 
   abbrev start : Start
-  start = l.before.before
+  start = (goal.at.At-loop-minute l).Start
 
   there : leg_of start.args.minutes.now l.loop-minute.minute + 1 < length start.args.minutes.now
   there = leg_there start.args.minutes.now start.args.azimuths.now (well start) l.loop-minute.minute (omega arith)
@@ -69,16 +68,16 @@ module _ (c : After-next_leg-leg) where
 -- what the test told of the minute
 module _ (c : After-is_out) where
   abbrev seen : After-azimuth_from-worked
-  seen = c.before
+  seen = (goal.at.After-is_out c).After-azimuth_from-worked
 
   abbrev leg : After-leg_at
-  leg = seen.before.before.before
+  leg = (goal.at.After-azimuth_from-worked seen).After-leg_at
 
   abbrev turn : At-loop-minute
-  turn = l leg.before
+  turn = l (goal.at.After-leg_at leg).After-next_leg-leg
 
   abbrev s : Start
-  s = start leg.before
+  s = start (goal.at.After-leg_at leg).After-next_leg-leg
 
   told : out s turn.loop-minute.minute ≡ c.is_out.result
   unfolding out_at value_at
@@ -132,7 +131,7 @@ is_out-requires c =
     let a = (start (goal.at.is_out-requires c).After-next_leg-leg).args in
     let value = (goal.at.is_out-requires c).After-value_on-value in (
       subst⁻¹ Reduced c.azimuth_from-worked.ensures (place_from_in_turns a.body a.runner c.minute_of.result).azimuth_reduced,
-      omega (arith, value.value_on-value.ensures, value_below value.leg_at.result (l value.before.before).loop-minute.minute),
+      omega (arith, value.value_on-value.ensures, value_below value.leg_at.result (l (goal.at.After-value_on-value value).After-next_leg-leg).loop-minute.minute),
     )
 
 pub returns-then-is_out : goal.returns-then-is_out
@@ -150,4 +149,4 @@ loop-minute-preserved c =
 pub returns : goal.returns
 returns c =
     let at = (goal.at.returns c).At-loop-minute in
-    found at.before.before at.loop-minute.minute at.loop-minute.invariant.0 at.loop-minute.invariant.2 (λ h. absurd (omega (arith, h, c.loop-minute-test.false)))
+    found (goal.at.At-loop-minute at).Start at.loop-minute.minute at.loop-minute.invariant.0 at.loop-minute.invariant.2 (λ h. absurd (omega (arith, h, c.loop-minute-test.false)))

@@ -1,7 +1,6 @@
 -- `judge::form_verdict` meets its contract.
 use mathlib.Core.List.{[], ◌∷◌}
 use mathlib.Core.Path.{◌∙◌, sym}
-use borrow.Author.Rules.{rules}
 use Rattle.calendar.proofs.RefusalLaws.{check, passed_first}
 use Rattle.calendar.specs.Refusal.{◌unless◌, first}
 use Rattle.turning_points.proofs.PointLaws.{formed_tests}

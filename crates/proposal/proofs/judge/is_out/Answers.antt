@@ -1,6 +1,5 @@
 -- `judge::is_out` meets its contract.
-use mathlib.Core.Path.{◌∙◌, ◌≡◌, ap, subst, sym}
-use Prim.Native.Nat.{ℕ}
+use mathlib.Core.Path.{◌∙◌, ap, subst, sym}
 use lib.Dec.{ltb}
 use borrow.Author.Rules.{rules}
 use Rattle.arctangent.specs.Direction.{Reduced}

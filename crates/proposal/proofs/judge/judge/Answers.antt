@@ -17,7 +17,7 @@ use Rattle.proposal.proofs.judge.judge.Goals.{After-verdict_before, In-Passed, S
 -- the verdict
 module _ (v : After-verdict_before) where
   abbrev s : Start
-  s = v.before.before
+  s = (goal.at.After-verdict_before v).Start
 
   abbrev lists : List ℕ
   lists = day_refusals s.args.date s.args.point ++ form_refusals s.args.minutes.now s.args.azimuths.now
@@ -25,7 +25,7 @@ module _ (v : After-verdict_before) where
 -- where it passed
 module _ (told : In-Passed) where
   abbrev v : After-verdict_before
-  v = told.before.before
+  v = (goal.at.In-Passed told).After-verdict_before
 
   passed : first (lists v) ≡ 0
   passed = sym v.verdict_before.ensures ∙ ap verdict_number told.in-Passed.is

@@ -2,7 +2,6 @@
 use Prim.Native.Nat.{◌+◌, ◌<◌}
 use native.Mathlib.Omega.{arith}
 use lib.ListN.{length}
-use borrow.Author.Rules.{rules}
 use Rattle.turning_points.proofs.PointLaws.{well_formed}
 use Rattle.turning_points.specs.Formed.{WellFormed}
 use Rattle.proposal.proofs.LegLaws.{leg_before_there, leg_next, leg_same}

@@ -1,5 +1,4 @@
 -- `judge::verdict_before` meets its contract.
-use borrow.Author.Rules.{rules}
 use Rattle.calendar.proofs.RefusalLaws.{joined}
 use Rattle.day.specs.Date.{day_refusals}
 use Rattle.proposal.specs.Verdict.{form_refusals}
