@@ -1,18 +1,18 @@
 -- The planner's answer: one and no other, by its cases, and what is left in the buffers.
-use mathlib.Core.Bool.{Bool, cond, false, true}
+use mathlib.Core.Bool.{cond, false, true}
 use mathlib.Core.List.{List, ◌++◌}
 use mathlib.Core.Path.{◌∙◌, ◌≡◌, ap, refl, sym}
 use Prim.Native.Nat.{ℕ}
 use lib.IntN.{ℤ}
-use lib.ListN.{drop, length}
+use lib.ListN.{drop}
 use Rattle.arctangent.specs.Direction.{angle_or, mark}
-use Rattle.calendar.specs.Refusal.{OneAnswer, first, number}
+use Rattle.calendar.specs.Refusal.{OneAnswer, first}
 use Rattle.day.proofs.CurveLaws.{below_length}
 use Rattle.day.specs.Curve.{azimuth_on, minutes}
 use Rattle.day.specs.Date.{day_refusals}
 use Rattle.day.specs.declared.date.Date.{Date}
 use Rattle.sky.proofs.AnswerLaws.{from_answer, judged_value, judged_zeros, one_from, refused_back}
-use Rattle.sky.specs.Answer.{Answer, judged}
+use Rattle.sky.specs.Answer.{Answer}
 use Rattle.sky_vectors.specs.declared.geocentric.Body.{Body}
 use Rattle.sky_vectors.specs.declared.station.Point.{Point}
 use Rattle.plan.specs.Answer.{PlanNumbers, left_in, no_plan, plan_of, planned, planning, planning_answer}

@@ -1,5 +1,5 @@
 -- What 02 asks of the planner by name, of every request.
-use mathlib.Core.Bool.{Bool, cond, false, true}
+use mathlib.Core.Bool.{Bool, true}
 use mathlib.Core.List.{List}
 use mathlib.Core.Logic.{◌⊎◌, inl, inr}
 use mathlib.Core.Path.{◌∙◌, ◌≡◌, ap, ap₂, refl, sym}
@@ -12,7 +12,6 @@ use borrow.Author.Tests.{eqb-false, eqb-true, le-leb, lt-ltb}
 use Rattle.arctangent.specs.Direction.{Reduced, angle_or, is_there, mark}
 use Rattle.arctangent.specs.declared.direction.Direction.{Direction}
 use Rattle.arctangent.specs.declared.direction.Direction.TheVariants.{None, Towards}
-use Rattle.calendar.proofs.RefusalLaws.{passed_first}
 use Rattle.calendar.specs.Refusal.{first}
 use Rattle.day.proofs.CurveLaws.{below_entry}
 use Rattle.day.proofs.SearchLaws.{clash}
@@ -20,10 +19,10 @@ use Rattle.day.specs.Curve.{azimuth_on, last_minute, minute_of, minutes}
 use Rattle.day.specs.Date.{day_refusals, days}
 use Rattle.day.specs.declared.date.Date.{Date}
 use Rattle.heading.specs.Heading.{clockwise, is_reduced}
-use Rattle.number_rules.specs.Angle.{full_turn, half_turn}
+use Rattle.number_rules.specs.Angle.{full_turn}
 use Rattle.numbers.specs.declared.angle.Angle.{Angle}
 use Rattle.proposal.proofs.VerdictLaws.{accepted_when, by_points}
-use Rattle.proposal.specs.Verdict.{JudgementAnswer, judgement}
+use Rattle.proposal.specs.Verdict.{judgement}
 use Rattle.sky.specs.Answer.{Answer}
 use Rattle.sky_vectors.proofs.PlaceLaws.{place_at_in_turns}
 use Rattle.sky_vectors.specs.declared.geocentric.Body.{Body}

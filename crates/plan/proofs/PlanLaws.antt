@@ -1,6 +1,6 @@
 -- Why a plan is never refused, and needs each of its points. On each of its legs no minute is off, since the leg was reached. And a plan without an inner point has the leg from the point before to
 -- the point behind: were it accepted, the search from the point before would have reached the point behind, but it went on to the farthest minute, which lies before that.
-use mathlib.Core.Bool.{◌&&◌, false, true}
+use mathlib.Core.Bool.{false, true}
 use mathlib.Core.List.{List}
 use mathlib.Core.Logic.{◌⊎◌}
 use mathlib.Core.Path.{◌∙◌, ◌≡◌, ap, refl, sym}
@@ -17,13 +17,13 @@ use Rattle.arctangent.specs.declared.direction.Direction.TheVariants.{Towards}
 use Rattle.calendar.specs.Refusal.{first}
 use Rattle.day.proofs.CurveLaws.{below_entry, below_length}
 use Rattle.day.proofs.SearchLaws.{clash}
-use Rattle.day.specs.Curve.{last_minute, minutes}
+use Rattle.day.specs.Curve.{last_minute}
 use Rattle.heading.specs.Heading.{is_reduced}
 use Rattle.proposal.proofs.LegLaws.{leg_is, value_start}
 use Rattle.proposal.proofs.VerdictLaws.{Unrefused, refused_later, unrefused}
 use Rattle.proposal.specs.Verdict.{is_out, leg_of, out_at, proposal_refusals, value_at}
 use Rattle.turning_points.proofs.ArcLaws.{distance_same}
-use Rattle.turning_points.proofs.PointLaws.{formed_when, reduced_at, turned_at, turned_when, well_formed}
+use Rattle.turning_points.proofs.PointLaws.{formed_when, reduced_at, turned_at, turned_when}
 use Rattle.turning_points.specs.Arc.{are_opposite, distance, value_on}
 use Rattle.turning_points.specs.Formed.{WellFormed}
 use Rattle.turning_points.specs.Points.{are_turned, at, azimuth, leg_at, signed_at}

@@ -9,11 +9,10 @@ use Rattle.day.specs.declared.date.Date.{Date}
 use Rattle.heading.specs.Heading.{clockwise}
 use Rattle.number_rules.specs.Angle.{half_turn}
 use Rattle.numbers.specs.declared.angle.Angle.{Angle}
-use Rattle.proposal.specs.Verdict.{JudgementAnswer, judgement}
-use Rattle.sky.specs.Answer.{Answer}
+use Rattle.proposal.specs.Verdict.{judgement}
 use Rattle.sky_vectors.specs.declared.geocentric.Body.{Body}
 use Rattle.sky_vectors.specs.declared.station.Point.{Point}
-use Rattle.plan.specs.Answer.{PlanNumbers, planning}
+use Rattle.plan.specs.Answer.{planning}
 use Rattle.plan.specs.Plan.{day_azimuths, plan_azimuths, plan_minutes}
 
 -- a list without its entry i

@@ -18,7 +18,7 @@ use Rattle.plan.proofs.answer.plan.Goals.{After-is_possible, After-work, In-Pass
 -- where the day passed
 module _ (told : In-Passed) where
   abbrev s : Start
-  s = told.before.before.before
+  s = (goal.at.In-Passed told).Start
 
   passed : first (day_refusals s.args.date s.args.point) ≡ 0
   passed = sym told.day_verdict.ensures ∙ ap verdict_number told.in-Passed.is
@@ -26,10 +26,10 @@ module _ (told : In-Passed) where
 -- and was worked
 module _ (c : After-is_possible) where
   abbrev worked : After-work
-  worked = c.before.before.before
+  worked = (goal.at.After-is_possible c).After-work
 
   abbrev from : In-Passed
-  from = worked.before.before.before.before
+  from = (goal.at.After-work worked).In-Passed
 
   abbrev day : List ℤ
   day = day_azimuths (s from).args.date (s from).args.body (s from).args.point

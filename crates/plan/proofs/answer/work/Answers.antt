@@ -1,6 +1,5 @@
 -- `answer::work` meets its contract. What is lent to the loop is what the definition works afresh for each minute.
 use mathlib.Core.Path.{◌∙◌, ◌≡◌}
-use borrow.Author.Rules.{rules}
 use mir.Syntax.{w64}
 use mir.Val.{of_z, to_z}
 use Rattle.day.proofs.DateLaws.{point_on_earth, standing, today}
@@ -17,7 +16,7 @@ use Rattle.plan.proofs.answer.work.Goals.{After-days_of-days, Start}
 -- what the day has in common
 module _ (c : After-days_of-days) where
   abbrev s : Start
-  s = c.before.before
+  s = (goal.at.After-days_of-days c).Start
 
   days_is : to_z w64 (of_z w64 c.days_of-days.result) ≡ days s.args.date
   days_is = passed c.days_of-days.type_inv c.days_of-days.ensures

@@ -4,8 +4,6 @@ use mathlib.Core.Path.{◌∙◌, ◌≡◌, ap, sym}
 use Prim.Native.Nat.{◌-◌, ◌<◌, ◌≤◌, ℕ}
 use native.Mathlib.Decide.{dec_lt}
 use native.Mathlib.Omega.{arith}
-use borrow.Author.Rules.{rules}
-use borrow.Author.Tests.{not-false, not-true}
 use Rattle.day.specs.Curve.{last_minute}
 use Rattle.plan.specs.Plan.{reaches}
 use Rattle.plan.proofs.DayLaws.{farthest_is, still_later}
@@ -15,13 +13,13 @@ use Rattle.plan.proofs.planner.farthest.Goals.{At-loop-last, In-loop-last, Start
 -- the minute that is not reached
 module _ (c : In-loop-last) where
   abbrev at : At-loop-last
-  at = c.before.before
+  at = (goal.at.In-loop-last c).At-loop-last
 
   abbrev s : Start
-  s = at.before
+  s = (goal.at.At-loop-last at).Start
 
   isn't : reaches s.args.tolerance s.args.day.now s.args.first at.loop-last.last ≡ false
-  isn't = sym c.reaches.ensures ∙ not-true c.reaches.result c.loop-last-test.true
+  isn't = sym c.reaches.ensures ∙ c.loop-last-test.true
 
 pub loop-last-init : goal.loop-last-init
 loop-last-init c = (omega arith, omega arith, λ e h k. absurd (omega (arith, h, k)))
@@ -45,4 +43,4 @@ pub returns : goal.returns
 returns c =
     let a = c.args in
     sym (farthest_is a.tolerance a.day.now c.requires.plannable a.first c.requires.first_lt_last_minute c.loop-last.last c.loop-last.invariant.0 c.loop-last.invariant.1
-    (sym c.reaches.ensures ∙ not-false c.reaches.result c.loop-last-test.false) c.loop-last.invariant.2)
+    (sym c.reaches.ensures ∙ c.loop-last-test.false) c.loop-last.invariant.2)

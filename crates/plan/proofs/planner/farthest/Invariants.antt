@@ -1,13 +1,8 @@
 use mathlib.Core.Bool.{false}
-use mathlib.Core.Path.{◌∙◌, ◌≡◌, ap, sym}
-use Prim.Native.Nat.{◌-◌, ◌<◌, ◌≤◌, ℕ}
-use native.Mathlib.Decide.{dec_lt}
-use native.Mathlib.Omega.{arith}
-use borrow.Author.Rules.{rules}
-use borrow.Author.Tests.{not-false, not-true}
+use mathlib.Core.Path.{◌≡◌}
+use Prim.Native.Nat.{◌<◌, ◌≤◌, ℕ}
 use Rattle.day.specs.Curve.{last_minute}
 use Rattle.plan.specs.Plan.{reaches}
-use Rattle.plan.proofs.DayLaws.{farthest_is, still_later}
 use Rattle.plan.proofs.planner.farthest.Given as goal
 
 abbrev pub invariant-loop-last : goal.invariant-loop-last

@@ -1,24 +1,23 @@
 -- `planner::put_points` meets its contract. The invariant: the minute is the turning point whose turn it is, and both buffers have all before it.
 use mathlib.Core.List.{List, ◌++◌}
 use mathlib.Core.Path.{◌∙◌, ◌≡◌, ap, refl, subst⁻¹, sym}
-use Prim.Native.Nat.{◌+◌, ◌-◌, ◌<◌, ◌≤◌, ℕ}
+use Prim.Native.Nat.{◌+◌, ◌<◌, ◌≤◌, ℕ}
 use native.Mathlib.Omega.{arith}
 use lib.IntN.{ℤ}
 use lib.ListN.{drop, length, set}
 use borrow.Author.Count.{below_more}
-use borrow.Author.Rules.{rules}
 use Rattle.day.specs.Curve.{each_below, last_minute, minutes}
 use Rattle.turning_points.specs.Points.{signed_at}
 use Rattle.plan.specs.Plan.{count, farthest, plan_azimuths, plan_minutes, turning}
 use Rattle.plan.proofs.DayLaws.{farthest_later, legs_are, turning_in, turning_late, turning_next}
 use Rattle.plan.proofs.FillLaws.{Filled, in_all, nothing_yet, one_more}
 use Rattle.plan.proofs.planner.put_points.Goals as goal
-use Rattle.plan.proofs.planner.put_points.Goals.{After-azimuths-2-1, After-farthest-minute, After-put_point, After-put_point-2, At-loop-minute, In-loop-minute, Start}
+use Rattle.plan.proofs.planner.put_points.Goals.{After-farthest-minute, After-put_point, After-put_point-2, At-loop-minute, In-loop-minute, Start}
 
 -- what the loop knows
 module _ (l : At-loop-minute) where
   abbrev start : Start
-  start = l.before.before
+  start = (goal.at.At-loop-minute l).Start
 
   abbrev point : ℕ → ℕ
   point = turning start.args.tolerance start.args.day.now
@@ -42,27 +41,27 @@ module _ (l : At-loop-minute) where
 -- a turn
 module _ (c : After-farthest-minute) where
   abbrev put : After-put_point
-  put = c.before.before.before.before
+  put = (goal.at.After-farthest-minute c).After-put_point
 
   abbrev turn : In-loop-minute
-  turn = put.before.before.before
+  turn = (goal.at.After-put_point put).In-loop-minute
 
   abbrev l : At-loop-minute
-  l = turn.before
+  l = (goal.at.In-loop-minute turn).At-loop-minute
 
   not_last : point l l.loop-minute.index < last_minute
-  not_last = omega (arith, l.loop-minute.invariant.0, turn.loop-minute-test.taken)
+  not_last = omega (arith, l.loop-minute.invariant.0, turn.loop-minute-test.true)
 
 -- the last point
-module _ (c : After-azimuths-2-1) where
+module _ (c : After-put_point-2) where
   abbrev last_put : After-put_point-2
-  last_put = c.before.before.before
+  last_put = c
 
   abbrev end : At-loop-minute
-  end = last_put.before.before.before.before
+  end = (goal.at.After-put_point-2 last_put).At-loop-minute
 
   counted : end.loop-minute.index + 1 ≡ count (start end).args.tolerance (start end).args.day.now
-  counted = legs_are (start end).args.tolerance (start end).args.day.now (start end).requires.plannable end.loop-minute.index (omega (arith, end.loop-minute.invariant.0, minute_in end, last_put.loop-minute-test.left)) end.loop-minute.invariant.1
+  counted = legs_are (start end).args.tolerance (start end).args.day.now (start end).requires.plannable end.loop-minute.index (omega (arith, end.loop-minute.invariant.0, minute_in end, last_put.loop-minute-test.false)) end.loop-minute.invariant.1
 
 pub loop-minute-init : goal.loop-minute-init
 loop-minute-init c =
@@ -84,7 +83,7 @@ put_point-requires c =
 pub farthest-minute-requires : goal.farthest-minute-requires
 farthest-minute-requires c =
     let turn = (goal.at.farthest-minute-requires c).In-loop-minute in record {
-      plannable = (start turn.before).requires.plannable;
+      plannable = (start (goal.at.In-loop-minute turn).At-loop-minute).requires.plannable;
       first_lt_last_minute = omega (arith, turn.loop-minute-test.true);
     }
 
@@ -115,20 +114,20 @@ put_point-requires-2 c =
     }
 
 pub overflow_add-result : goal.overflow_add-result
-overflow_add-result c = omega (arith, index_in (end (goal.at.overflow_add-result c).After-azimuths-2-1))
+overflow_add-result c = omega (arith, index_in (end (goal.at.overflow_add-result c).After-put_point-2))
 
 pub shape_of-minutes : goal.shape_of-minutes
-shape_of-minutes c = ap length (last_put (goal.at.shape_of-minutes c).After-azimuths-2-1).put_point-2.ensures.minutes_after ∙ (minutes_more (end (goal.at.shape_of-minutes c).After-azimuths-2-1)).whole ∙ sym (start (end (goal.at.shape_of-minutes c).After-azimuths-2-1)).requires.each_minute.0
+shape_of-minutes c = ap length (last_put (goal.at.shape_of-minutes c).After-put_point-2).put_point-2.ensures.minutes_after ∙ (minutes_more (end (goal.at.shape_of-minutes c).After-put_point-2)).whole ∙ sym (start (end (goal.at.shape_of-minutes c).After-put_point-2)).requires.each_minute.0
 
 pub shape_of-azimuths : goal.shape_of-azimuths
-shape_of-azimuths c = ap length (last_put (goal.at.shape_of-azimuths c).After-azimuths-2-1).put_point-2.ensures.azimuths_after ∙ (azimuths_more (end (goal.at.shape_of-azimuths c).After-azimuths-2-1)).whole ∙ sym (start (end (goal.at.shape_of-azimuths c).After-azimuths-2-1)).requires.each_minute.1
+shape_of-azimuths c = ap length (last_put (goal.at.shape_of-azimuths c).After-put_point-2).put_point-2.ensures.azimuths_after ∙ (azimuths_more (end (goal.at.shape_of-azimuths c).After-put_point-2)).whole ∙ sym (start (end (goal.at.shape_of-azimuths c).After-put_point-2)).requires.each_minute.1
 
 pub returns : goal.returns
 unfolding plan_minutes plan_azimuths
 returns c =
-    let at = end (goal.at.returns c).After-azimuths-2-1 in
+    let at = end (goal.at.returns c).After-put_point-2 in
     let k = (start at).args in record {
-      value = counted (goal.at.returns c).After-azimuths-2-1;
-      minutes_after = (last_put (goal.at.returns c).After-azimuths-2-1).put_point-2.ensures.minutes_after ∙ in_all (point at) k.minutes.now (minutes_more at) ∙ ap (λ (n : ℕ). each_below (point at) n ++ drop n k.minutes.now) (counted (goal.at.returns c).After-azimuths-2-1);
-      azimuths_after = (last_put (goal.at.returns c).After-azimuths-2-1).put_point-2.ensures.azimuths_after ∙ in_all (azimuth at) k.azimuths.now (azimuths_more at) ∙ ap (λ (n : ℕ). each_below (azimuth at) n ++ drop n k.azimuths.now) (counted (goal.at.returns c).After-azimuths-2-1);
+      value = counted (goal.at.returns c).After-put_point-2;
+      minutes_after = (last_put (goal.at.returns c).After-put_point-2).put_point-2.ensures.minutes_after ∙ in_all (point at) k.minutes.now (minutes_more at) ∙ ap (λ (n : ℕ). each_below (point at) n ++ drop n k.minutes.now) (counted (goal.at.returns c).After-put_point-2);
+      azimuths_after = (last_put (goal.at.returns c).After-put_point-2).put_point-2.ensures.azimuths_after ∙ in_all (azimuth at) k.azimuths.now (azimuths_more at) ∙ ap (λ (n : ℕ). each_below (azimuth at) n ++ drop n k.azimuths.now) (counted (goal.at.returns c).After-put_point-2);
     }

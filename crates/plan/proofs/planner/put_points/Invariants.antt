@@ -1,16 +1,9 @@
-use mathlib.Core.List.{List, ◌++◌}
-use mathlib.Core.Path.{◌∙◌, ◌≡◌, ap, refl, subst⁻¹, sym}
-use Prim.Native.Nat.{◌+◌, ◌-◌, ◌<◌, ◌≤◌, ℕ}
-use native.Mathlib.Omega.{arith}
-use lib.IntN.{ℤ}
-use lib.ListN.{drop, length, set}
-use borrow.Author.Count.{below_more}
-use borrow.Author.Rules.{rules}
-use Rattle.day.specs.Curve.{each_below, last_minute, minutes}
+use mathlib.Core.Path.{◌≡◌}
+use Prim.Native.Nat.{◌-◌, ◌<◌, ℕ}
+use Rattle.day.specs.Curve.{last_minute}
 use Rattle.turning_points.specs.Points.{signed_at}
-use Rattle.plan.specs.Plan.{count, farthest, plan_azimuths, plan_minutes, turning}
-use Rattle.plan.proofs.DayLaws.{farthest_later, legs_are, turning_in, turning_late, turning_next}
-use Rattle.plan.proofs.FillLaws.{Filled, in_all, nothing_yet, one_more}
+use Rattle.plan.specs.Plan.{turning}
+use Rattle.plan.proofs.FillLaws.{Filled}
 use Rattle.plan.proofs.planner.put_points.Given as goal
 
 abbrev pub invariant-loop-minute : goal.invariant-loop-minute

@@ -1,20 +1,18 @@
 -- `planner::reaches` meets its contract. The invariant: no minute so far is off the leg.
-use mathlib.Core.Bool.{◌&&◌, false, not, true}
 use mathlib.Core.List.{List}
 use mathlib.Core.Path.{◌∙◌, ◌≡◌, ap, refl, subst⁻¹, sym}
-use Prim.Native.Nat.{◌+◌, ◌-◌, ◌<◌, ◌≤◌, ℕ}
+use Prim.Native.Nat.{◌+◌}
 use native.Mathlib.Omega.{arith}
 use lib.Dec.{ltb}
 use lib.IntN.{ℤ}
 use borrow.Author.Count.{below_more}
-use borrow.Author.Rules.{rules}
 use borrow.Author.Tests.{le-ltb, lt-ltb}
 use Rattle.turning_points.proofs.ArcLaws.{value_below}
 use Rattle.turning_points.proofs.SearchLaws.{somewhere}
 use Rattle.turning_points.specs.Arc.{OnLeg, are_opposite, distance, value_on}
 use Rattle.turning_points.specs.Points.{azimuth}
 use Rattle.turning_points.specs.declared.arc.Leg.{Leg}
-use Rattle.plan.specs.Plan.{is_off, reaches, straight}
+use Rattle.plan.specs.Plan.{is_off, reaches}
 use Rattle.plan.proofs.DayLaws.{azimuth_in, day_leg, not_after, reached_when}
 use Rattle.plan.proofs.planner.reaches.Goals as goal
 use Rattle.plan.proofs.planner.reaches.Goals.{After-are_opposite, After-distance, At-loop-minute, Start}
@@ -22,7 +20,7 @@ use Rattle.plan.proofs.planner.reaches.Goals.{After-are_opposite, After-distance
 -- whether the ends are opposite
 module _ (c : After-are_opposite) where
   abbrev s : Start
-  s = c.before.before.before
+  s = (goal.at.After-are_opposite c).Start
 
   abbrev day : List ℤ
   day = s.args.day.now
@@ -33,12 +31,12 @@ module _ (c : After-are_opposite) where
 -- a minute of the leg
 module _ (c : At-loop-minute) where
   abbrev ends : After-are_opposite
-  ends = c.before.before.before
+  ends = (goal.at.At-loop-minute c).After-are_opposite
 
 -- what the test told of it
 module _ (c : After-distance) where
   abbrev l : At-loop-minute
-  l = c.before.before.before.before
+  l = (goal.at.After-distance c).At-loop-minute
 
   abbrev k : Start
   k = s (ends l)
@@ -103,7 +101,7 @@ returns-then-tolerance-distance c =
     let at = l (goal.at.returns-then-tolerance-distance c).After-distance in
     let a = (k (goal.at.returns-then-tolerance-distance c).After-distance).args in
     let off = off_is (goal.at.returns-then-tolerance-distance c).After-distance ∙ lt-ltb a.tolerance c.distance.result c.if-tolerance-distance.true in
-    sym (rw (told (ends at) ∙ at.if-are_opposite.left, somewhere (is_off a.tolerance a.day.now a.first a.last) (a.last + 1) at.loop-minute.minute (omega arith) off) refl)
+    sym (rw (told (ends at) ∙ at.if-are_opposite.false, somewhere (is_off a.tolerance a.day.now a.first a.last) (a.last + 1) at.loop-minute.minute (omega arith) off) refl)
 
 pub loop-minute-preserved : goal.loop-minute-preserved
 loop-minute-preserved c =
@@ -113,6 +111,7 @@ loop-minute-preserved c =
 
 pub returns : goal.returns
 returns c =
+    let at = (goal.at.returns c).At-loop-minute in
     let k = s (ends at) in
     let a = k.args in
     sym (reached_when a.tolerance a.day.now k.requires.plannable a.first a.last (told (ends at) ∙ c.if-are_opposite.false) (λ m h. c.loop-minute.invariant.2 m (omega (arith, h, c.loop-minute-test.false))))

@@ -1,5 +1,4 @@
 -- `planner::straight` meets its contract.
-use borrow.Author.Rules.{rules}
 use Rattle.plan.proofs.planner.straight.Goals as goal
 
 pub returns : goal.returns
