@@ -1,6 +1,5 @@
 -- `line_answers::body_line::body_line` meets its contract.
 use mathlib.Core.Path.{◌∙◌, sym}
-use borrow.Author.Rules.{rules}
 use Rattle.text.specs.Cases.{bytes}
 use Rattle.line_answers.specs.BodyLine.{body_line}
 use Rattle.line_answers.proofs.body_line.body_line.Goals as goal

@@ -31,7 +31,7 @@ unfolding azimuth_text signed
 returns-in-Towards c =
     let angle = c.in-Towards.angle in record {
       appended = subst⁻¹ (λ (d : Direction). Appended c.args.text (text_of d) c.appended_units.result) c.in-Towards.is c.appended_units.ensures;
-      length_bound = omega (arith, appended_length c.appended_units.ensures, decimals_short (pos angle.units) (units_fit (goal.at.returns-in-Towards c).After-appended_units).ranges);
+      length_bound = omega (arith, appended_length c.appended_units.ensures, decimals_short (pos angle.units) (units_fit (goal.at.returns-in-Towards c).After-appended_units).fits);
     }
 
 pub returns-in-None : goal.returns-in-None

@@ -4,7 +4,6 @@ use mathlib.Core.Option.{Option}
 use mathlib.Core.Path.{◌∙◌, ap, sym}
 use lib.IntN.{ℤ}
 use lib.ListN.{drop}
-use borrow.Author.Rules.{rules}
 use borrow.Author.Tests.{not-false, not-true}
 use Rattle.text.specs.declared.line.Numbers.{Numbers}
 use Rattle.refraction.specs.declared.air.Air.TheVariants as Airs

@@ -3,7 +3,6 @@ use mathlib.Core.Path.{◌∙◌, ap, sym}
 use Rattle.line_answers.proofs.PrintedLaws.{refused_line, value_line}
 use Rattle.sky.specs.Answer.{nowhere, place_answer}
 use Rattle.line_answers.specs.PlacesLine.{place_line, places_line}
-use borrow.Author.Rules.{rules}
 use Rattle.line_answers.proofs.places_line.places_line.Goals as goal
 
 pub returns-in-Seen : goal.returns-in-Seen

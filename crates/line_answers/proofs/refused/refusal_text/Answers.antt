@@ -8,7 +8,6 @@ use Rattle.text.specs.Cases.{bytes}
 use Rattle.text.specs.Decimal.{decimal}
 use Rattle.line_answers.proofs.PrintedLaws.{field, field_room, from_empty, none_used, number_room, whole_short}
 use Rattle.line_answers.specs.Printed.{refusal_line}
-use borrow.Author.Rules.{rules}
 use Rattle.line_answers.proofs.refused.refusal_text.Goals as goal
 use Rattle.line_answers.proofs.refused.refusal_text.Goals.{After-appended_bytes-word, After-number_of}
 

@@ -14,7 +14,6 @@ use Rattle.sum_rules.specs.MoonTerms.{L'}
 use Rattle.sum_rules.specs.Sidereal.{mean}
 use Rattle.sum_rules.specs.Table.{column}
 use Rattle.sum_rules.specs.declared.instant.Instant.{Instant}
-use borrow.Author.Rules.{rules}
 use Rattle.line_answers.proofs.sheet.arguments_at.Goals as goal
 use Rattle.line_answers.proofs.sheet.arguments_at.Goals.{After-arguments-moon, After-mean_at-sidereal, After-powers_at, After-powers_at-2, Start}
 

@@ -2,7 +2,6 @@
 use mathlib.Core.Path.{◌∙◌, ap, sym}
 use Rattle.line_answers.proofs.PrintedLaws.{refused_line, value_line}
 use Rattle.line_answers.specs.Sheet.{arguments_line, no_arguments, row_answer, sheet_line}
-use borrow.Author.Rules.{rules}
 use Rattle.line_answers.proofs.sheet.sheet_line.Goals as goal
 
 pub returns-in-Accepted : goal.returns-in-Accepted

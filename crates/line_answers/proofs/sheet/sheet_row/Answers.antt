@@ -6,7 +6,6 @@ use Rattle.text.specs.declared.line.Numbers.{Numbers}
 use Rattle.line_answers.proofs.SheetLaws.{not_read, one_row, was_read}
 use Rattle.request.specs.Request.{start_from}
 use Rattle.line_answers.specs.Sheet.{sheet_row, start_row}
-use borrow.Author.Rules.{rules}
 use Rattle.line_answers.proofs.sheet.sheet_row.Goals as goal
 
 pub returns-then-not-numbers : goal.returns-then-not-numbers
