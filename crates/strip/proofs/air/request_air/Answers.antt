@@ -1,6 +1,5 @@
 -- `air::request_air` meets its contract.
 use mathlib.Core.Path.{refl}
-use borrow.Author.Rules.{rules}
 use Rattle.strip.proofs.air.request_air.Goals as goal
 
 pub returns-in-Measured : goal.returns-in-Measured

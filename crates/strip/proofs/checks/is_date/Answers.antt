@@ -16,7 +16,7 @@ use Rattle.strip.proofs.checks.is_date.Goals.{After-day_count, Start}
 -- the day count of the header's date
 module _ (c : After-day_count) where
   abbrev s : Start
-  s = c.before.before.before.before
+  s = (goal.at.After-day_count c).Start
 
   year_fits : SFits w64 s.args.header.year
   year_fits = search rules

@@ -1,6 +1,5 @@
 -- `header::fields_in` meets its contract.
 use mathlib.Core.Path.{refl}
-use borrow.Author.Rules.{rules}
 use Rattle.octets.specs.Octets.{are_narrow, total}
 use Rattle.text.specs.Line.{all}
 use Rattle.strip.specs.Format.{fields}

@@ -1,26 +1,26 @@
 -- `header::header_in` meets its contract: each number that is lent has 32 bits, and is the same in 64.
-use borrow.Author.Rules.{rules}
 use Rattle.numbers.proofs.Machine.{passed}
 use Rattle.strip.specs.Format.{header_in}
 use Rattle.strip.proofs.HeaderLaws.{cast_wide, wide_same}
 use Rattle.strip.proofs.header.header_in.Goals as goal
+use Rattle.strip.proofs.header.header_in.Goals.{After-air_in, After-body_in, After-signed, After-signed-2}
 
 pub overflow_cast-result : goal.overflow_cast-result
-overflow_cast-result c = cast_wide (c.type_inv.numbers.given 4)
+overflow_cast-result c = cast_wide (c.type_inv.numbers 4)
 
 pub overflow_cast-result-2 : goal.overflow_cast-result-2
-overflow_cast-result-2 c = cast_wide (c.type_inv.numbers.given 5)
+overflow_cast-result-2 c = cast_wide (c.type_inv.numbers 5)
 
 pub overflow_cast-result-3 : goal.overflow_cast-result-3
-overflow_cast-result-3 c = cast_wide (c.type_inv.numbers.given 6)
+overflow_cast-result-3 c = cast_wide (c.type_inv.numbers 6)
 
 pub overflow_cast-result-4 : goal.overflow_cast-result-4
-overflow_cast-result-4 c = cast_wide (c.type_inv.numbers.given 9)
+overflow_cast-result-4 c = cast_wide (c.type_inv.numbers 9)
 
 pub returns : goal.returns
 unfolding header_in
 returns c =
-    let lent = c.type_inv.numbers.given in
+    let lent = c.type_inv.numbers in
     λ i. record {
       air = c.air_in.ensures i;
       body = c.body_in.ensures i;

@@ -29,10 +29,10 @@ module _ (s : Start) where
 
 -- the start, seen from where the octet of the body is known, and from where the longitude's are
 abbrev from_body : After-body_byte → Start
-from_body c = c.before
+from_body c = (goal.at.After-body_byte c).Start
 
 abbrev from_longitude : After-unsigned → Start
-from_longitude c = from_body c.before.before.before.before.before.before.before.before
+from_longitude c = from_body (goal.at.After-unsigned c).After-body_byte
 
 pub overflow_cast-result-2 : goal.overflow_cast-result-2
 overflow_cast-result-2 c = cast_natural (good (from_body (goal.at.overflow_cast-result-2 c).After-body_byte)).year (lit< tt)

@@ -3,7 +3,6 @@ use mathlib.Core.Path.{◌∙◌, sym}
 use Prim.Native.Nat.{◌≤◌}
 use native.Mathlib.Omega.{arith}
 use lib.IntN.{pos}
-use borrow.Author.Rules.{rules}
 use Rattle.numbers.proofs.Machine.{Mirror, ◌⊖◌, fits, from_nat, kept, lit}
 use Rattle.strip.proofs.HeaderLaws.{signed_high, signed_low}
 use Rattle.strip.proofs.header.signed.Goals as goal

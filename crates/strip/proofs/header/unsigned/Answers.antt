@@ -23,10 +23,10 @@ module _ (s : Start) where
 
 -- by the test of its sign
 is_below : (c : Then-z-lt0) → non_neg c.args.z ≡ false
-is_below c = below_zero c.args.z (less (z c.before) (lit (pos 0)) c.if-z-lt0.true)
+is_below c = below_zero c.args.z (less (z (goal.at.Then-z-lt0 c).Start) (lit (pos 0)) c.if-z-lt0.true)
 
 is_above : (c : Else-z-lt0) → non_neg c.args.z ≡ true
-is_above c = not_below_zero c.args.z (not_less (z c.before) (lit (pos 0)) c.if-z-lt0.false)
+is_above c = not_below_zero c.args.z (not_less (z (goal.at.Else-z-lt0 c).Start) (lit (pos 0)) c.if-z-lt0.false)
 
 pub overflow_add-result : goal.overflow_add-result
 overflow_add-result c = fits (sum (goal.at.overflow_add-result c).Start) tt
