@@ -3,7 +3,6 @@ use mathlib.Core.Path.{◌∙◌, ◌≡◌, ap, subst⁻¹}
 use lib.Dec.{lit<}
 use lib.IntN.{◌-ℤ◌, negsuc, pos, ℤ}
 use lib.Signed.{◌<ℤ◌, ◌≤ℤ◌}
-use borrow.Author.Rules.{rules}
 use Rattle.day.proofs.DateLaws.{minute_reachable}
 use Rattle.day.specs.Curve.{AcceptedDay, last_minute, minute_of}
 use Rattle.number_rules.proofs.CalendarLaws.{first_day_is}
@@ -20,7 +19,7 @@ use Rattle.rise_set.proofs.answer.is_up_before.Goals.{After-minute_of-last, Star
 -- a day after the first
 module _ (c : Then-days-gt-FIRST_DAY) where
   abbrev s : Start
-  s = c.before
+  s = (goal.at.Then-days-gt-FIRST_DAY c).Start
 
   after : first_day <ℤ s.args.days
   after = subst⁻¹ (λ (z : ℤ). z <ℤ s.args.days) first_day_is (less (lit (negsuc 36_523)) (any s.ranges.days) c.if-days-gt-FIRST_DAY.true)
@@ -33,8 +32,8 @@ module _ (c : Then-days-gt-FIRST_DAY) where
 
 -- its last minute
 module _ (c : After-minute_of-last) where
-  last_is : c.minute_of-last.result ≡ minute_of (s c.before).args.date ((s c.before).args.days -ℤ pos 1) last_minute
-  last_is = c.minute_of-last.ensures ∙ ap (λ (d : ℤ). minute_of (s c.before).args.date d last_minute) (kept (less_one c.before) tt).same
+  last_is : c.minute_of-last.result ≡ minute_of (s (goal.at.After-minute_of-last c).Then-days-gt-FIRST_DAY).args.date ((s (goal.at.After-minute_of-last c).Then-days-gt-FIRST_DAY).args.days -ℤ pos 1) last_minute
+  last_is = c.minute_of-last.ensures ∙ ap (λ (d : ℤ). minute_of (s (goal.at.After-minute_of-last c).Then-days-gt-FIRST_DAY).args.date d last_minute) (kept (less_one (goal.at.After-minute_of-last c).Then-days-gt-FIRST_DAY) tt).same
 
 pub overflow_sub-days : goal.overflow_sub-days
 overflow_sub-days c = fits (less_one (goal.at.overflow_sub-days c).Then-days-gt-FIRST_DAY) tt
@@ -50,9 +49,9 @@ elevation_from-requires c =
 pub returns-then-days-gt-FIRST_DAY : goal.returns-then-days-gt-FIRST_DAY
 returns-then-days-gt-FIRST_DAY c =
     let k = (goal.at.returns-then-days-gt-FIRST_DAY c).After-minute_of-last in
-    let a = (s k.before).args in
+    let a = (s (goal.at.After-minute_of-last k).Then-days-gt-FIRST_DAY).args in
     let worked = passed c.elevation_from.type_inv (c.elevation_from.ensures ∙ ap (λ (i : Instant). (place_from a.body a.runner i).elevation) (last_is k)) in
-    rw (is_lt (after k.before)) (c.is_up.ensures ∙ ap is_up worked)
+    rw (is_lt (after (goal.at.After-minute_of-last k).Then-days-gt-FIRST_DAY)) (c.is_up.ensures ∙ ap is_up worked)
 
 pub returns : goal.returns
 returns c =

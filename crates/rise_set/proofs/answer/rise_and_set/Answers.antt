@@ -6,26 +6,17 @@ use Rattle.calendar.proofs.RefusalLaws.{never_none}
 use Rattle.calendar.specs.Refusal.{first, number, verdict_number}
 use Rattle.day.proofs.Demand3.{every_day_near}
 use Rattle.day.specs.Date.{day_refusals}
-use Rattle.day.specs.Demand3.{DayNear}
-use Rattle.day.specs.declared.date.Date.{Date}
 use Rattle.sky.proofs.AnswerLaws.{judged_value, judged_zeros}
-use Rattle.sky_vectors.specs.declared.geocentric.Body.{Body}
-use Rattle.sky_vectors.specs.declared.station.Point.{Point}
 use Rattle.rise_set.specs.Answer.{crossings, neither, rise_and_set}
-use Rattle.rise_set.specs.Claims.{Told}
 use Rattle.rise_set.proofs.AnswerLaws.{one_rise_set}
 use Rattle.rise_set.proofs.ClaimsHold.{every_day_told}
 use Rattle.rise_set.proofs.answer.rise_and_set.Goals as goal
 use Rattle.rise_set.proofs.answer.rise_and_set.Goals.{In-Passed, Start}
 
--- what is promised beside the equations, of any request
-beside : (date : Date) (body : Body) (point : Point) → DayNear date point × Told date body point
-beside date body point = (every_day_near date point, every_day_told date body point)
-
 -- a request that is let pass
 module _ (c : In-Passed) where
   abbrev s : Start
-  s = c.before.before.before
+  s = (goal.at.In-Passed c).Start
 
   passes : first (day_refusals s.args.date s.args.point) ≡ 0
   passes = sym c.day_verdict.ensures ∙ ap verdict_number c.in-Passed.is
@@ -46,7 +37,12 @@ returns-in-Passed c =
     let e = (goal.at.returns-in-Passed c).In-Passed in
     let a = (s e).args in
     let value = crossings a.date a.body a.point in
-    let judged = sym (judged_value (first (day_refusals a.date a.point)) neither value (passes e)) in let all = (one_rise_set ((λ i. record { refusal = 0; value = worked.0 i }) ∙ judged), (worked.1, beside a.date a.body a.point)) in record { one_answer = all.0; kept_after = all.1.0; day_near = all.1.1.0; told = all.1.1.1 }
+    let judged = sym (judged_value (first (day_refusals a.date a.point)) neither value (passes e)) in record {
+      one_answer = one_rise_set ((λ i. record { refusal = 0; value = worked.result_value i }) ∙ judged);
+      kept_after = worked.elevations_after;
+      day_near = every_day_near a.date a.point;
+      told = every_day_told a.date a.body a.point;
+    }
 
 pub returns-in-Refused : goal.returns-in-Refused
 unfolding rise_and_set
@@ -56,7 +52,9 @@ returns-in-Refused c =
     let is : first (day_refusals a.date a.point) ≡ number refusal =
     sym c.day_verdict.ensures ∙ ap verdict_number c.in-Refused.is in
     let value = crossings a.date a.body a.point in
-    let judged = sym (judged_zeros (first (day_refusals a.date a.point)) neither value (λ e. never_none refusal (sym is ∙ e))) in let all = (
-      one_rise_set ((λ i. record { refusal = sym is i; value = neither }) ∙ judged),
-      (rw (ne_eqb (number refusal) 0 (never_none refusal)) refl, beside a.date a.body a.point),
-    ) in record { one_answer = all.0; kept_after = all.1.0; day_near = all.1.1.0; told = all.1.1.1 }
+    let judged = sym (judged_zeros (first (day_refusals a.date a.point)) neither value (λ e. never_none refusal (sym is ∙ e))) in record {
+      one_answer = one_rise_set ((λ i. record { refusal = sym is i; value = neither }) ∙ judged);
+      kept_after = rw (ne_eqb (number refusal) 0 (never_none refusal)) refl;
+      day_near = every_day_near a.date a.point;
+      told = every_day_told a.date a.body a.point;
+    }

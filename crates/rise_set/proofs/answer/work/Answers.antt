@@ -1,7 +1,6 @@
 -- `answer::work` meets its contract. What is lent to the loops is what the definitions work afresh for each minute; the curve's entries then decide both events.
 use mathlib.Core.Path.{◌∙◌, ◌≡◌, ap}
 use lib.Dec.{lit<}
-use borrow.Author.Rules.{rules}
 use mir.Syntax.{w64}
 use mir.Val.{of_z, to_z}
 use Rattle.day.proofs.DateLaws.{day_before, point_on_earth, standing, today}
@@ -20,7 +19,7 @@ use Rattle.rise_set.proofs.answer.work.Goals.{After-days_of-days, After-fill, Af
 -- what the day has in common
 module _ (c : After-days_of-days) where
   abbrev s : Start
-  s = c.before.before
+  s = (goal.at.After-days_of-days c).Start
 
   days_is : to_z w64 (of_z w64 c.days_of-days.result) ≡ days s.args.date
   days_is = passed c.days_of-days.type_inv c.days_of-days.ensures
@@ -31,15 +30,15 @@ module _ (c : After-days_of-days) where
 -- the curve, and the side before it
 module _ (c : After-is_up_before-up_before) where
   abbrev filled : After-fill
-  filled = c.before.before.before
+  filled = (goal.at.After-is_up_before-up_before c).After-fill
 
   abbrev common : After-days_of-days
-  common = filled.before.before
+  common = (goal.at.After-fill filled).After-days_of-days
 
   abbrev asked : Start
   asked = s common
 
-  curve_is : filled.fill.last.1.1.1.1.1.1.0 ≡ curve asked.args.date asked.args.body asked.args.point
+  curve_is : filled.fill.new.curve ≡ curve asked.args.date asked.args.body asked.args.point
   unfolding curve place_at
   curve_is =
       filled.fill.ensures
@@ -66,9 +65,9 @@ is_up_before-up_before-requires c = let k = (goal.at.is_up_before-up_before-requ
 
 pub returns : goal.returns
 returns c =
-    let k = (goal.at.returns c).After-elevations-1 in
+    let k = (goal.at.returns c).After-is_up_before-up_before in
     let a = (asked k).args in
-    let rise = c.before.before.first-crossing.ensures.equal ∙ ((λ i. first_minute (crosses_in Rise (side_is k i) (curve_is k i))) ∙ curve_decides a.date a.body a.point Rise) in
+    let rise = c.first_crossing-rise.ensures.equal ∙ ((λ i. first_minute (crosses_in Rise (side_is k i) (curve_is k i))) ∙ curve_decides a.date a.body a.point Rise) in
     let set = c.first_crossing-set.ensures.equal ∙ ((λ i. first_minute (crosses_in Set (side_is k i) (curve_is k i))) ∙ curve_decides a.date a.body a.point Set) in record {
       result_value = (λ i. record { rise = rise i; set = set i });
       elevations_after = curve_is k;
