@@ -1,7 +1,6 @@
 -- `boundary::codes::code_in` meets its contract.
 use mathlib.Core.Path.{◌∙◌, ◌≡◌, ap, sym}
 use lib.IntN.{nat_abs, pos}
-use borrow.Author.Rules.{rules}
 use Rattle.numbers.proofs.Machine.{any}
 use Rattle.numbers.specs.Whole.{between}
 use Rattle.request.proofs.RequestLaws.{tested}

@@ -1,6 +1,5 @@
 -- `boundary::codes::code_refusal` meets its contract.
 use mathlib.Core.Path.{◌∙◌}
-use borrow.Author.Rules.{rules}
 use Rattle.calendar.specs.Refusal.{◌else◌}
 use Rattle.boundary.proofs.codes.code_refusal.Goals as goal
 

@@ -1,5 +1,4 @@
 -- `boundary::codes::strip_kind_refusal` meets its contract.
-use borrow.Author.Rules.{rules}
 use borrow.Author.Tests.{eq-eqb, ne_eqb}
 use Rattle.boundary.proofs.codes.strip_kind_refusal.Goals as goal
 

@@ -11,7 +11,7 @@ use Rattle.strip.specs.declared.air.StripAir.{StripAir}
 use Rattle.strip.specs.declared.air.StripAir.TheVariants.{CarriedOver, Measured, None}
 use Rattle.boundary.specs.Codes.{code_of, strip_kind_of}
 use Rattle.boundary.proofs.lent.put_header.Goals as goal
-use Rattle.boundary.proofs.lent.put_header.Goals.{After-lent-1, Start}
+use Rattle.boundary.proofs.lent.put_header.Goals.{After-code_of, Start}
 
 -- codes are small
 kind_small : (air : StripAir) → to_z w64 (strip_kind_of air) ≡ pos (strip_kind_of air)
@@ -24,9 +24,9 @@ code_small Sun = refl
 code_small Moon = refl
 
 -- the header's numbers as they are stored
-module _ (c : After-lent-1) where
+module _ (c : After-code_of) where
   abbrev s : Start
-  s = c.before.before.before.before
+  s = (goal.at.After-code_of c).Start
 
   year_same : to_z w64 (of_z w64 s.args.header.year) ≡ s.args.header.year
   year_same = search rules
@@ -48,8 +48,8 @@ module _ (c : After-lent-1) where
 
 pub returns : goal.returns
 returns c =
-    let kind : to_z w64 c.strip_kind_of.result ≡ pos (strip_kind_of (s (goal.at.returns c).After-lent-1).args.header.air) =
-    ap (to_z w64) c.strip_kind_of.ensures ∙ kind_small (s (goal.at.returns c).After-lent-1).args.header.air in
-    let code : to_z w64 c.code_of.result ≡ pos (code_of (s (goal.at.returns c).After-lent-1).args.header.body) =
-    ap (to_z w64) c.code_of.ensures ∙ code_small (s (goal.at.returns c).After-lent-1).args.header.body in
-    λ i. kind i ∷ code i ∷ year_same (goal.at.returns c).After-lent-1 i ∷ month_same (goal.at.returns c).After-lent-1 i ∷ day_same (goal.at.returns c).After-lent-1 i ∷ longitude_same (goal.at.returns c).After-lent-1 i ∷ latitude_same (goal.at.returns c).After-lent-1 i ∷ step_same (goal.at.returns c).After-lent-1 i ∷ []
+    let kind : to_z w64 c.strip_kind_of.result ≡ pos (strip_kind_of (s (goal.at.returns c).After-code_of).args.header.air) =
+    ap (to_z w64) c.strip_kind_of.ensures ∙ kind_small (s (goal.at.returns c).After-code_of).args.header.air in
+    let code : to_z w64 c.code_of.result ≡ pos (code_of (s (goal.at.returns c).After-code_of).args.header.body) =
+    ap (to_z w64) c.code_of.ensures ∙ code_small (s (goal.at.returns c).After-code_of).args.header.body in
+    λ i. kind i ∷ code i ∷ year_same (goal.at.returns c).After-code_of i ∷ month_same (goal.at.returns c).After-code_of i ∷ day_same (goal.at.returns c).After-code_of i ∷ longitude_same (goal.at.returns c).After-code_of i ∷ latitude_same (goal.at.returns c).After-code_of i ∷ step_same (goal.at.returns c).After-code_of i ∷ []

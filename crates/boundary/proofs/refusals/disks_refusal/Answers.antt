@@ -1,7 +1,6 @@
 -- `boundary::refusals::disks_refusal` meets its contract.
 use mathlib.Core.Path.{◌∙◌, ap, sym}
 use lib.IntN.{pos, ℤ}
-use borrow.Author.Rules.{rules}
 use Rattle.calendar.specs.Refusal.{◌else◌, ◌unless◌, first}
 use Rattle.calendar.proofs.RefusalLaws.{first_one}
 use Rattle.overlap.specs.DiskRange.{radius_most, sun_radius_least}

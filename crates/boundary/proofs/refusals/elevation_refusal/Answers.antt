@@ -1,6 +1,5 @@
 -- `boundary::refusals::elevation_refusal` meets its contract.
 use mathlib.Core.Path.{◌∙◌, ap}
-use borrow.Author.Rules.{rules}
 use Rattle.numbers.proofs.Machine.{any}
 use Rattle.boundary.specs.Codes.{elevation_refusal}
 use Rattle.boundary.proofs.refusals.elevation_refusal.Goals as goal

@@ -2,7 +2,6 @@
 use mathlib.Core.Path.{◌∙◌, ◌≡◌, ap, sym}
 use lib.Dec.{leb}
 use lib.IntN.{nat_abs, ℤ}
-use borrow.Author.Rules.{rules}
 use Rattle.numbers.proofs.Machine.{any}
 use Rattle.sum_rules.specs.Instant.{furthest}
 use Rattle.boundary.proofs.refusals.reach_refusal.Goals as goal

@@ -1,6 +1,5 @@
 -- `boundary::refusals::refraction_refusal` meets its contract.
 use mathlib.Core.Path.{◌∙◌, ap}
-use borrow.Author.Rules.{rules}
 use Rattle.calendar.specs.Refusal.{◌else◌, first}
 use Rattle.numbers.proofs.Machine.{any}
 use Rattle.refraction.specs.Air.{air_refusals}

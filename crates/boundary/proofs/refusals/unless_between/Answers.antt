@@ -1,13 +1,12 @@
 -- `boundary::refusals::unless_between` meets its contract.
 use mathlib.Core.Path.{◌∙◌, ◌≡◌, sym}
-use borrow.Author.Rules.{rules}
 use Rattle.numbers.specs.Whole.{between}
 use Rattle.numbers.proofs.Machine.{any}
 use Rattle.boundary.proofs.refusals.unless_between.Goals as goal
 use Rattle.boundary.proofs.refusals.unless_between.Goals.{After-is_between}
 
 -- the test, at the parameters
-tested : (c : After-is_between) → let s = c.before in between s.args.least s.args.number s.args.most ≡ c.is_between.result
+tested : (c : After-is_between) → between c.args.least c.args.number c.args.most ≡ c.is_between.result
 tested c =
     let f = c.ranges in
     sym (c.is_between.ensures ∙ (λ i. between ((any f.least).same i) ((any f.number).same i) ((any f.most).same i)))
