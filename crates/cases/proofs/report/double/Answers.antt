@@ -3,7 +3,6 @@ use mathlib.Core.Path.{◌∙◌, ◌≡◌}
 use lib.Ieee as Ieee
 use lib.IntN.{pos}
 use native.Mathlib.Omega.{arith}
-use borrow.Author.Rules.{rules}
 use Rattle.numbers.proofs.Machine.{any, arg}
 use Rattle.number_rules.specs.Angle.{full_turn}
 use Rattle.refraction.proofs.DoubleMirror.{is_double}

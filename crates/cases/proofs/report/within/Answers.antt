@@ -1,6 +1,5 @@
 -- `cases::report::within` meets its contract.
 use mathlib.Core.Path.{◌∙◌, ap}
-use borrow.Author.Rules.{rules}
 use Rattle.numbers.proofs.Machine.{any}
 use Rattle.cases.specs.Compare.{near, whole}
 use Rattle.cases.proofs.report.within.Goals as goal

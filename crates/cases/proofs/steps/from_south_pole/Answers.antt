@@ -6,7 +6,6 @@ use Rattle.sky_vectors.specs.Place.{place_towards}
 use Rattle.sky_vectors.specs.SkyRange.{SmallVector}
 use Rattle.numbers.proofs.SineCosineLaws.{gave_one_angle, gave_sine_cosine}
 use Rattle.sky_vectors.proofs.SkySizes.{centre_small, widen}
-use borrow.Author.Rules.{rules}
 use Rattle.cases.proofs.steps.from_south_pole.Goals as goal
 
 pub place_towards-requires : goal.place_towards-requires

@@ -1,6 +1,5 @@
 -- `cases::steps::moment_of` meets its contract: an accepted start is within reach.
 use mathlib.Core.Path.{◌∙◌, ap, subst⁻¹}
-use borrow.Author.Rules.{rules}
 use Rattle.numbers.proofs.Machine.{Mirror, asked, field}
 use Rattle.request.proofs.RequestLaws.{start_reachable}
 use Rattle.sky_vectors.specs.SkyRange.{Reachable}

@@ -20,18 +20,18 @@ use Rattle.cases.proofs.steps.steps_to.Goals.{After-geocentric_at-centre, After-
 -- the states on the way
 module _ (e : After-geocentric_at-centre) where
   abbrev nodding : After-nutation_at-nutation
-  nodding = e.before.before.before
+  nodding = (goal.at.After-geocentric_at-centre e).After-nutation_at-nutation
 
   abbrev at : After-moment_of-moment
-  at = nodding.before.before.before.before
+  at = (goal.at.After-nutation_at-nutation nodding).After-moment_of-moment
 
   abbrev with_table : After-table-table
-  with_table = at.before
+  with_table = (goal.at.After-moment_of-moment at).After-table-table
 
   abbrev s : Start
-  s = with_table.before
+  s = (goal.at.After-table-table with_table).Start
 
-longitude_is : (r : After-runner_at-runner) → to_z w64 (of_z w64 r.runner_at-runner.result.longitude) ≡ (runner (s r.before.before).args.point).longitude
+longitude_is : (r : After-runner_at-runner) → to_z w64 (of_z w64 r.runner_at-runner.result.longitude) ≡ (runner (s (goal.at.After-runner_at-runner r).After-geocentric_at-centre).args.point).longitude
 longitude_is r = to_z-of_z w64 r.runner_at-runner.result.longitude (fits r) ∙ ap (λ (x : Runner). x.longitude) r.runner_at-runner.ensures
   where
     fits : (r : After-runner_at-runner) → SFits w64 r.runner_at-runner.result.longitude
@@ -45,7 +45,7 @@ runner_at-runner-requires c =
 pub orientation_at-orientation-requires : goal.orientation_at-orientation-requires
 orientation_at-orientation-requires c =
     let r = (goal.at.orientation_at-orientation-requires c).After-runner_at-runner in
-    let e = r.before.before in record {
+    let e = (goal.at.After-runner_at-runner r).After-geocentric_at-centre in record {
       table_value = ((with_table e).table-table.ensures, subst⁻¹ (λ (z : ℤ). nat_abs z ≤ half_turn) (longitude_is r) (runner_stands (s e).args.point (on_earth (s e).args.point (s e).requires.1)).longitude_size);
       reached = (((at e).moment_of-moment.ensures.0.0, (at e).moment_of-moment.ensures.0.1), ((nodding e).nutation_at-nutation.ensures.0, (nodding e).nutation_at-nutation.ensures.1));
     }
@@ -53,7 +53,7 @@ orientation_at-orientation-requires c =
 pub returns : goal.returns
 returns c =
     let r = (goal.at.returns c).After-runner_at-runner in
-    let e = r.before.before in
+    let e = (goal.at.After-runner_at-runner r).After-geocentric_at-centre in
     let ut_is = (at e).moment_of-moment.ensures.1.0 in
     let tt_is = (at e).moment_of-moment.ensures.1.1 in record {
       longitude_value = ((nodding e).nutation_at-nutation.ensures.0 ∙ ap Δψ tt_is, (nodding e).nutation_at-nutation.ensures.1 ∙ ap Δε tt_is);
