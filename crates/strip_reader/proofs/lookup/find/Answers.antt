@@ -17,7 +17,7 @@ use Rattle.strip_reader.proofs.lookup.find.Goals.{After-which, Start}
 -- what is found, and what it tells
 module _ (k : After-which) where
   abbrev s : Start
-  s = k.before.before.before
+  s = (goal.at.After-which k).Start
 
   abbrev one : List ℕ
   one = s.args.first.now
@@ -74,9 +74,8 @@ returns-in-Second c =
 
 pub returns-in-Refused : goal.returns-in-Refused
 returns-in-Refused c =
-    let k = (goal.at.returns-in-Refused c).After-shared_slice_known-2-1 in
-    let refusal = c.before.before.before.refused.given.0.0 in
-    let is = found_is k c.before.before.before.refused.given.1 in record {
-      result_value = empty_part refusal (one k) (two k) ∙ ap (λ (a : Answer ℕ). part_of a (one k) (two k)) is;
-      refusal_after = c.before.number_of_lem.ensures ∙ ap (λ (a : Answer ℕ). a.refusal) is;
+    let k = (goal.at.returns-in-Refused c).After-which in
+    let is = found_is k c.in-Refused.is in record {
+      result_value = empty_part c.in-Refused.refused (one k) (two k) ∙ ap (λ (a : Answer ℕ). part_of a (one k) (two k)) is;
+      refusal_after = c.number_of.ensures ∙ ap (λ (a : Answer ℕ). a.refusal) is;
     }

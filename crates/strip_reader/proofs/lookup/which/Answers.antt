@@ -2,7 +2,6 @@
 use mathlib.Core.List.{List}
 use mathlib.Core.Path.{◌∙◌, ◌≡◌, ap, sym}
 use Prim.Native.Nat.{ℕ}
-use borrow.Author.Rules.{rules}
 use Rattle.calendar.specs.Refusal.{first}
 use Rattle.numbers.proofs.Machine.{any}
 use Rattle.strip.specs.Format.{fields, header_in}
@@ -17,7 +16,7 @@ use Rattle.strip_reader.proofs.lookup.which.Goals.{In-Read-read, Start}
 -- both strips are read
 module _ (k : In-Read-read) where
   abbrev s : Start
-  s = k.before.before.before.before.before.before.before.before.before.before
+  s = (goal.at.In-Read-read k).Start
 
   one_read : (first (read_refusals s.args.first.now) ≡ 0) × (k.in-Read.one ≡ header_in (fields s.args.first.now))
   one_read = read_passed s.args.first.now (sym (ap read_answer k.in-Read.is) ∙ k.read.ensures.equal)

@@ -1,23 +1,20 @@
 -- `reader::are_azimuths` meets its contract. The invariant: the azimuths that are left decide.
 use mathlib.Core.List.{List}
 use mathlib.Core.Path.{◌∙◌, ◌≡◌, ap, sym}
-use Prim.Native.Nat.{◌-◌, ◌/◌, ◌<◌, ◌≤◌, ℕ}
+use Prim.Native.Nat.{◌/◌, ◌<◌, ℕ}
 use native.Mathlib.Omega.{arith}
 use lib.Dec.{lit≤}
-use lib.ListN.{drop, get_or, length}
-use borrow.Author.Rules.{rules}
-use borrow.Author.Tests.{not-false, not-true}
+use lib.ListN.{get_or, length}
 use Rattle.strip.proofs.AzimuthLaws.{all_good, count_in, entry_in, judged_none, one_bad, one_good}
-use Rattle.strip.specs.Checks.{are_azimuths, is_azimuth}
+use Rattle.strip.specs.Checks.{is_azimuth}
 use Rattle.strip.specs.Format.{azimuth_size, azimuths_in}
-use Rattle.text.specs.Line.{all}
 use Rattle.strip_reader.proofs.reader.are_azimuths.Goals as goal
 use Rattle.strip_reader.proofs.reader.are_azimuths.Goals.{After-is_azimuth, At-loop-step}
 
 -- what a turn told of the azimuth at its step
 module _ (c : After-is_azimuth) where
   abbrev turn : At-loop-step
-  turn = c.before.before.before
+  turn = (goal.at.After-is_azimuth c).At-loop-step
 
   abbrev part : List ℕ
   part = turn.args.part.now
@@ -43,7 +40,7 @@ number_at-requires c = (omega (arith, c.loop-step-test.true), lit≤ tt)
 pub returns-then-not-is_azimuth : goal.returns-then-not-is_azimuth
 returns-then-not-is_azimuth c =
     let k = (goal.at.returns-then-not-is_azimuth c).After-is_azimuth in
-    one_bad (azimuths_in (part k)) (turn k).loop-step.step (turn k).loop-step.invariant.1 (within k) (judged k ∙ not-true _ c.if-not-is_azimuth.true)
+    one_bad (azimuths_in (part k)) (turn k).loop-step.step (turn k).loop-step.invariant.1 (within k) (judged k ∙ c.if-not-is_azimuth.true)
 
 pub loop-step-smaller : goal.loop-step-smaller
 loop-step-smaller c = omega (arith, here (goal.at.loop-step-smaller c).After-is_azimuth)
@@ -51,7 +48,7 @@ loop-step-smaller c = omega (arith, here (goal.at.loop-step-smaller c).After-is_
 pub loop-step-preserved : goal.loop-step-preserved
 loop-step-preserved c =
     let k = (goal.at.loop-step-preserved c).After-is_azimuth in
-    (omega (arith, here k), one_good (azimuths_in (part k)) (turn k).loop-step.step (turn k).loop-step.invariant.1 (within k) (judged k ∙ not-false _ c.if-not-is_azimuth.false))
+    (omega (arith, here k), one_good (azimuths_in (part k)) (turn k).loop-step.step (turn k).loop-step.invariant.1 (within k) (judged k ∙ c.if-not-is_azimuth.false))
 
 pub returns : goal.returns
 returns c =

@@ -1,12 +1,6 @@
-use mathlib.Core.List.{List}
-use mathlib.Core.Path.{◌∙◌, ◌≡◌, ap, sym}
-use Prim.Native.Nat.{◌-◌, ◌/◌, ◌<◌, ◌≤◌, ℕ}
-use native.Mathlib.Omega.{arith}
-use lib.Dec.{lit≤}
-use lib.ListN.{drop, get_or, length}
-use borrow.Author.Rules.{rules}
-use borrow.Author.Tests.{not-false, not-true}
-use Rattle.strip.proofs.AzimuthLaws.{all_good, count_in, entry_in, judged_none, one_bad, one_good}
+use mathlib.Core.Path.{◌≡◌}
+use Prim.Native.Nat.{◌-◌, ◌/◌, ◌≤◌}
+use lib.ListN.{drop, length}
 use Rattle.strip.specs.Checks.{are_azimuths, is_azimuth}
 use Rattle.strip.specs.Format.{azimuth_size, azimuths_in}
 use Rattle.text.specs.Line.{all}

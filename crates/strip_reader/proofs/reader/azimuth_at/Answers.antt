@@ -15,7 +15,7 @@ use Rattle.strip_reader.proofs.reader.azimuth_at.Goals.{After-number_at-number, 
 -- the number that stands there
 module _ (c : After-number_at-number) where
   abbrev s : Start
-  s = c.before.before.before
+  s = (goal.at.After-number_at-number c).Start
 
   here : s.args.step < length s.args.part.now / azimuth_size
   here = c.if-part-step.false

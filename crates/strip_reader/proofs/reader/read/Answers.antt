@@ -18,7 +18,7 @@ use Rattle.strip_reader.proofs.reader.read.Goals.{After-header_in-header, Start}
 -- what the header is read from
 module _ (c : After-header_in-header) where
   abbrev s : Start
-  s = c.before.before.before.before.before
+  s = (goal.at.After-header_in-header c).Start
 
   abbrev octets : List ℕ
   octets = s.args.strip.now

@@ -42,13 +42,13 @@ module _ (octets : List ℕ) where
 -- what the calls told of them
 module _ (k : After-or_else-3) where
   abbrev by_code : After-unless-by_code
-  by_code = k.before.before.before.before
+  by_code = (goal.at.After-or_else-3 k).After-unless-by_code
 
   abbrev by_length : After-unless-by_length
-  by_length = by_code.before.before.before.before.before.before
+  by_length = (goal.at.After-unless-by_code by_code).After-unless-by_length
 
   abbrev s : Start
-  s = by_length.before.before.before.before
+  s = (goal.at.After-unless-by_length by_length).Start
 
   abbrev octets : List ℕ
   octets = s.args.strip.now
@@ -64,17 +64,16 @@ module _ (k : After-or_else-3) where
 
   front_is : verdict_number k.or_else-3.result ≡ first (front octets)
   front_is =
-      let by_version = by_code.before.before.before.before in
       joined (20 unless length_agrees octets ∷ []) (drop 1 (front octets)) k.or_else-3.ensures
       (check 20 by_length.unless-by_length.ensures (ap (λ (list : List ℕ). eqb (get_or list 0 0) (length octets - length_size)) numbers_are ∙ length_test octets s.requires.header_size_in_bounds.0))
       (joined (21 unless eqb (get_or (fields octets) 1 0) version ∷ []) (drop 2 (front octets)) k.or_else-2.ensures
-      (check 21 by_version.unless-by_version.ensures (ap (λ (list : List ℕ). eqb (get_or list 1 0) version) numbers_are))
+      (check 21 by_code.unless-by_version.ensures (ap (λ (list : List ℕ). eqb (get_or list 1 0) version) numbers_are))
       (joined (22 unless are_codes (get_or (fields octets) 2 0) (get_or (fields octets) 3 0) ∷ []) (by_header octets) k.or_else.ensures
       (check 22 by_code.unless-by_code.ensures (by_code.are_codes.ensures ∙ ap (λ (list : List ℕ). are_codes (get_or list 2 0) (get_or list 3 0)) numbers_are))
       (k.header_verdict-by_header.ensures ∙ ap (λ (h : Header). first (header_refusals h)) header_is)))
 
 pub overflow_cast-stated : goal.overflow_cast-stated
-overflow_cast-stated c = omega (arith, c.type_inv.numbers.given 0)
+overflow_cast-stated c = omega (arith, c.type_inv.numbers 0)
 
 pub enum_told-1 : goal.enum_told-1
 enum_told-1 c = search rules

@@ -4,7 +4,6 @@ use mathlib.Core.Path.{◌∙◌, ◌≡◌, ap}
 use Prim.Native.Nat.{◌*◌, ◌+◌, ℕ}
 use native.Mathlib.Omega.{arith}
 use lib.Dec.{eqb}
-use borrow.Author.Rules.{rules}
 use Rattle.calendar.proofs.RefusalLaws.{check, joined}
 use Rattle.calendar.specs.Refusal.{◌unless◌}
 use Rattle.numbers.proofs.Machine.{any}

@@ -1,21 +1,17 @@
 -- `writer::are_azimuths` meets its contract. The invariant: the azimuths that are left decide.
 use mathlib.Core.List.{List}
-use mathlib.Core.Path.{◌∙◌, ◌≡◌, sym}
-use Prim.Native.Nat.{◌-◌, ◌<◌, ◌≤◌, ℕ}
+use mathlib.Core.Path.{◌∙◌, sym}
+use Prim.Native.Nat.{◌<◌, ℕ}
 use native.Mathlib.Omega.{arith}
-use lib.ListN.{drop, length}
-use borrow.Author.Rules.{rules}
-use borrow.Author.Tests.{not-false, not-true}
+use lib.ListN.{length}
 use Rattle.strip.proofs.AzimuthLaws.{all_good, judged_none, one_bad, one_good}
-use Rattle.strip.specs.Checks.{are_azimuths, is_azimuth}
-use Rattle.text.specs.Line.{all}
 use Rattle.strip_writer.proofs.writer.are_azimuths.Goals as goal
 use Rattle.strip_writer.proofs.writer.are_azimuths.Goals.{After-is_azimuth, At-loop-step}
 
 -- what a turn told of the azimuth at its step
 module _ (c : After-is_azimuth) where
   abbrev turn : At-loop-step
-  turn = c.before.before.before
+  turn = (goal.at.After-is_azimuth c).At-loop-step
 
   abbrev list : List ℕ
   list = turn.args.azimuths.now
@@ -29,7 +25,7 @@ loop-step-init c = (omega arith, judged_none c.args.azimuths.now)
 pub returns-then-not-is_azimuth : goal.returns-then-not-is_azimuth
 returns-then-not-is_azimuth c =
     let k = (goal.at.returns-then-not-is_azimuth c).After-is_azimuth in
-    one_bad (list k) (turn k).loop-step.step (turn k).loop-step.invariant.1 (here k) (sym k.is_azimuth.ensures ∙ not-true _ c.if-not-is_azimuth.true)
+    one_bad (list k) (turn k).loop-step.step (turn k).loop-step.invariant.1 (here k) (sym k.is_azimuth.ensures ∙ c.if-not-is_azimuth.true)
 
 pub loop-step-smaller : goal.loop-step-smaller
 loop-step-smaller c = omega (arith, here (goal.at.loop-step-smaller c).After-is_azimuth)
@@ -37,7 +33,7 @@ loop-step-smaller c = omega (arith, here (goal.at.loop-step-smaller c).After-is_
 pub loop-step-preserved : goal.loop-step-preserved
 loop-step-preserved c =
     let k = (goal.at.loop-step-preserved c).After-is_azimuth in
-    (omega (arith, here k), one_good (list k) (turn k).loop-step.step (turn k).loop-step.invariant.1 (here k) (sym k.is_azimuth.ensures ∙ not-false _ c.if-not-is_azimuth.false))
+    (omega (arith, here k), one_good (list k) (turn k).loop-step.step (turn k).loop-step.invariant.1 (here k) (sym k.is_azimuth.ensures ∙ c.if-not-is_azimuth.false))
 
 pub returns : goal.returns
 returns c =

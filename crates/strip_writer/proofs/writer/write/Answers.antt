@@ -15,12 +15,12 @@ use Rattle.strip.specs.Format.{Strip, header_numbers, header_widths, strip_of, s
 use Rattle.strip_writer.specs.Writing.{write, write_refusals}
 use Rattle.strip_writer.proofs.WriteLaws.{all_written, few, has_room, head_length, header_none, nothing_written, one_writing, strip_passes}
 use Rattle.strip_writer.proofs.writer.write.Goals as goal
-use Rattle.strip_writer.proofs.writer.write.Goals.{After-put_fields-next, In-Passed, Start}
+use Rattle.strip_writer.proofs.writer.write.Goals.{After-numbers_of-numbers, After-put_fields-next, In-Passed, Start}
 
 -- a strip that is let pass
 module _ (k : In-Passed) where
   abbrev s : Start
-  s = k.before.before.before.before.before
+  s = (goal.at.In-Passed k).Start
 
   abbrev strip : Strip
   strip = strip_of s.args.header s.args.azimuths.now
@@ -34,7 +34,7 @@ module _ (k : In-Passed) where
 -- its header is stored
 module _ (c : After-put_fields-next) where
   abbrev told : In-Passed
-  told = c.before.before.before.before.before
+  told = (goal.at.After-put_fields-next c).In-Passed
 
   stored : Put (before told) 0 (joined header_widths (header_numbers (s told).args.header (length (s told).args.azimuths.now))) c.put_fields-next.new.out c.put_fields-next.result
   stored = subst (λ (list : List ℕ). Put (before told) 0 (joined header_widths list) c.put_fields-next.new.out c.put_fields-next.result) c.numbers_of-numbers.ensures c.put_fields-next.ensures
@@ -50,7 +50,7 @@ numbers_of-numbers-requires c =
 pub put_fields-next-requires : goal.put_fields-next-requires
 unfolding total header_numbers
 put_fields-next-requires c =
-    let k = (goal.at.put_fields-next-requires c).After-numbers_of-numbers in
+    let k = (goal.at.put_fields-next-requires c).In-Passed in
     (omega (arith, has_room (strip k) (length (before k)) (passes k)), ap length c.numbers_of-numbers.ensures)
 
 pub put_alike-requires : goal.put_alike-requires

@@ -20,7 +20,7 @@ use Rattle.strip_writer.proofs.writer.write_verdict.Goals.{After-header_verdict,
 -- the header's checks, and the others
 module _ (k : After-header_verdict) where
   abbrev s : Start
-  s = k.before.before
+  s = (goal.at.After-header_verdict k).Start
 
   abbrev front : List ℕ
   front = header_refusals s.args.header
