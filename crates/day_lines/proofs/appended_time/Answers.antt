@@ -1,7 +1,6 @@
 -- `day_lines::appended_time` meets its contract.
 use Prim.Native.Nat.{◌/◌}
 use native.Mathlib.Omega.{arith}
-use borrow.Author.Rules.{rules}
 use Rattle.text.proofs.DecimalLaws.{appended_length, appended_twice, padded_length}
 use Rattle.text.specs.Cases.{bytes}
 use Rattle.day_lines.specs.DaysLine.{time_text}

@@ -4,7 +4,6 @@ use mathlib.Core.Option.{Option}
 use mathlib.Core.Path.{◌∙◌, ap, sym}
 use lib.IntN.{ℤ}
 use lib.ListN.{drop}
-use borrow.Author.Rules.{rules}
 use borrow.Author.Tests.{not-false, not-true}
 use Rattle.day.specs.Date.{date_from}
 use Rattle.rise_set.proofs.AnswerLaws.{one_rise_set}

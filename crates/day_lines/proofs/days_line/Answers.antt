@@ -3,7 +3,6 @@ use mathlib.Core.Path.{◌∙◌, ap, sym}
 use Rattle.line_answers.proofs.PrintedLaws.{refused_line, value_line}
 use Rattle.rise_set.specs.Answer.{neither, rise_set_answer}
 use Rattle.day_lines.specs.DaysLine.{days_line, rise_set_line}
-use borrow.Author.Rules.{rules}
 use Rattle.day_lines.proofs.days_line.Goals as goal
 
 pub returns-in-Seen : goal.returns-in-Seen

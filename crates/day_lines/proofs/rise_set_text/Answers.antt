@@ -2,7 +2,6 @@
 use mathlib.Core.Path.{◌∙◌}
 use Prim.Native.Nat.{◌≤◌}
 use native.Mathlib.Omega.{arith}
-use borrow.Author.Rules.{rules}
 use Rattle.rise_set.specs.Answer.{rise_set_numbers}
 use Rattle.rise_set.specs.Crossing.{crossing_numbers}
 use Rattle.text.proofs.DecimalLaws.{appended_length, appended_twice}
@@ -14,16 +13,14 @@ use Rattle.day_lines.proofs.rise_set_text.Goals.{After-appended_byte-first, Afte
 -- how much is used, crossing by crossing
 rise_room : (c : After-appended_crossing) → c.appended_crossing.result.length ≤ 5
 rise_room c =
-    let e = c.before in
-    omega (arith, none_used e.empty.ensures, appended_length c.appended_crossing.ensures, crossing_most (crossing_numbers e.args.seen.rise))
+    omega (arith, none_used c.empty.ensures, appended_length c.appended_crossing.ensures, crossing_most (crossing_numbers c.args.seen.rise))
 
 first_room : (c : After-appended_byte-first) → c.appended_byte-first.result.length ≤ 6
-first_room c = omega (arith, rise_room c.before, appended_length c.appended_byte-first.ensures)
+first_room c = omega (arith, rise_room (goal.at.After-appended_byte-first c).After-appended_crossing, appended_length c.appended_byte-first.ensures)
 
 set_room : (c : After-appended_crossing-2) → c.appended_crossing-2.result.length ≤ 11
 set_room c =
-    let s = c.before.before.before.before in
-    omega (arith, first_room c.before, appended_length c.appended_crossing-2.ensures, crossing_most (crossing_numbers s.args.seen.set))
+    omega (arith, first_room (goal.at.After-appended_crossing-2 c).After-appended_byte-first, appended_length c.appended_crossing-2.ensures, crossing_most (crossing_numbers c.args.seen.set))
 
 pub appended_crossing-requires : goal.appended_crossing-requires
 appended_crossing-requires c = omega (arith, none_used c.empty.ensures)
