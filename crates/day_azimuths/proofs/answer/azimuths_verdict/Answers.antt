@@ -1,7 +1,6 @@
 -- `answer::azimuths_verdict` meets its contract.
 use mathlib.Core.Path.{◌∙◌, ap}
 use lib.IntN.{ℤ}
-use borrow.Author.Rules.{rules}
 use Rattle.calendar.proofs.RefusalLaws.{joined}
 use Rattle.calendar.specs.Refusal.{first}
 use Rattle.day.specs.Date.{day_refusals}

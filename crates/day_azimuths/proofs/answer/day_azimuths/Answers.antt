@@ -19,7 +19,7 @@ use Rattle.day_azimuths.proofs.answer.day_azimuths.Goals.{After-azimuths_verdict
 -- the verdict
 module _ (v : After-azimuths_verdict) where
   abbrev s : Start
-  s = v.before.before
+  s = (goal.at.After-azimuths_verdict v).Start
 
   step_is : (any s.ranges.step).machine ≡ s.args.step
   step_is = (any s.ranges.step).same

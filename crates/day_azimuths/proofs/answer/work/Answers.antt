@@ -5,7 +5,6 @@ use Prim.Native.Nat.{◌*◌, ◌≤◌}
 use native.Mathlib.Omega.{arith}
 use lib.IntN.{nat_abs, ℤ}
 use lib.ListN.{drop}
-use borrow.Author.Rules.{rules}
 use mir.Syntax.{w64}
 use mir.Val.{of_z, to_z}
 use Rattle.day.proofs.DateLaws.{point_on_earth, standing, today}
@@ -24,7 +23,7 @@ use Rattle.day_azimuths.proofs.answer.work.Goals.{After-steps_of-count, Start}
 -- what the day has in common, and how many steps it has
 module _ (c : After-steps_of-count) where
   abbrev s : Start
-  s = c.before.before.before.before
+  s = (goal.at.After-steps_of-count c).Start
 
   days_is : to_z w64 (of_z w64 c.days_of-days.result) ≡ days s.args.date
   days_is = passed c.days_of-days.type_inv c.days_of-days.ensures

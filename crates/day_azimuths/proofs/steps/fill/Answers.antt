@@ -1,11 +1,10 @@
 -- `steps::fill` meets its contract. The invariant: the entries so far are the azimuths at the steps so far, and the others are as they were.
 use mathlib.Core.List.{◌++◌}
 use mathlib.Core.Path.{◌∙◌, ◌≡◌, ap, refl, subst⁻¹}
-use Prim.Native.Nat.{◌*◌, ◌-◌, ◌<◌, ◌≤◌, ℕ}
+use Prim.Native.Nat.{◌*◌, ◌<◌, ℕ}
 use native.Mathlib.Omega.{arith}
 use lib.IntN.{ℤ}
-use lib.ListN.{drop, length, length-set, take}
-use borrow.Author.Rules.{rules}
+use lib.ListN.{drop, length, length-set}
 use mir.Syntax.{w64}
 use mir.Val.{of_z, to_z}
 use mir.ValLaws.{to_z-of_z}
@@ -18,7 +17,7 @@ use Rattle.sum_rules.specs.declared.instant.Instant.{Instant}
 use Rattle.day_azimuths.specs.Azimuths.{strip_azimuth, strip_azimuth_from}
 use Rattle.day_azimuths.proofs.StepLaws.{in_day}
 use Rattle.day_azimuths.proofs.steps.fill.Goals as goal
-use Rattle.day_azimuths.proofs.steps.fill.Goals.{In-loop-index, Start}
+use Rattle.day_azimuths.proofs.steps.fill.Goals.{At-loop-index, In-loop-index, Start}
 
 module _ (s : Start) where
   days_is : to_z w64 (of_z w64 s.args.days) ≡ s.args.days
@@ -31,7 +30,7 @@ module _ (s : Start) where
 -- a turn
 module _ (c : In-loop-index) where
   abbrev s : Start
-  s = c.before.before.before
+  s = (goal.at.In-loop-index c).Start
 
   abbrev minute : ℕ
   minute = c.loop-index.index * s.args.step
@@ -65,7 +64,7 @@ loop-index-smaller c = omega (arith, c.loop-index-test.true)
 pub loop-index-preserved : goal.loop-index-preserved
 loop-index-preserved c =
     let k = (goal.at.loop-index-preserved c).In-loop-index in
-    let at = k.before in
+    let at = (goal.at.In-loop-index k).At-loop-index in
     let a = (s k).args in
     let is = c.strip_azimuth_from.ensures ∙ ap (λ (i : Instant). strip_azimuth (place_from a.body a.runner i).azimuth) c.minute_of.ensures in
     let here : at.loop-index.index < length at.loop-index.azimuths = omega (arith, k.loop-index-test.true, at.loop-index.invariant.1, (s k).requires.step_bound.1) in (

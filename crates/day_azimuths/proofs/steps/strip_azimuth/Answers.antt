@@ -1,7 +1,6 @@
 -- `steps::strip_azimuth` meets its contract.
 use mathlib.Core.Path.{ap, subst, sym}
 use native.Mathlib.Omega.{arith}
-use borrow.Author.Rules.{rules}
 use Rattle.arctangent.specs.Direction.{Reduced}
 use Rattle.day_azimuths.specs.Azimuths.{strip_azimuth}
 use Rattle.day_azimuths.proofs.steps.strip_azimuth.Goals as goal

@@ -1,6 +1,5 @@
 -- `steps::strip_azimuth_from` meets its contract.
 use mathlib.Core.Path.{◌∙◌, ap, subst⁻¹}
-use borrow.Author.Rules.{rules}
 use Rattle.arctangent.specs.Direction.{Reduced}
 use Rattle.sky_vectors.proofs.PlaceLaws.{place_from_in_turns}
 use Rattle.day_azimuths.specs.Azimuths.{strip_azimuth}
