@@ -4,7 +4,6 @@ use Prim.Native.Nat.{◌≤◌, ℕ}
 use native.Mathlib.Nat.{le_refl}
 use lib.Ieee.{Float}
 use lib.IntN.{nat_abs, pos, ℤ}
-use borrow.Author.Rules.{rules}
 use Rattle.number_rules.specs.Angle.{quarter_turn}
 use Rattle.numbers.specs.Whole.{between}
 use Rattle.numbers.proofs.Machine.{any, handed}
@@ -26,7 +25,7 @@ module _ (s : Start) where
   abbrev value : Float
   value = refraction (air_of s.args.air s.args.pressure s.args.temperature) s.args.elevation
 
-refusal_is : (c : After-refraction_refusal-refusal) → c.refraction_refusal-refusal.result ≡ refusal_of c.before
+refusal_is : (c : After-refraction_refusal-refusal) → c.refraction_refusal-refusal.result ≡ refusal_of (goal.at.After-refraction_refusal-refusal c).Start
 refusal_is c =
     let a = c.args in
     c.refraction_refusal-refusal.ensures ∙ ap (λ (e : ℤ). refraction_refusal e a.air a.pressure a.temperature) (any c.ranges.elevation).same
@@ -34,10 +33,10 @@ refusal_is c =
 -- what no check refuses
 module _ (c : Else-refusal-ne0) where
   abbrev s : Start
-  s = c.before.before
+  s = (goal.at.Else-refusal-ne0 c).Start
 
   accepted : refusal_of s ≡ 0
-  accepted = sym (refusal_is c.before) ∙ c.if-refusal-ne0.false
+  accepted = sym (refusal_is (goal.at.Else-refusal-ne0 c).After-refraction_refusal-refusal) ∙ c.if-refusal-ne0.false
 
   elevation_size : nat_abs s.args.elevation ≤ quarter_turn
   elevation_size =

@@ -1,9 +1,8 @@
 -- `capi::azimuths::raddlehue_day_azimuths` meets its contract. The answer is the request's own, where the body's code is known; it says of the buffer and of the count what is written.
 use mathlib.Core.List.{List, ◌++◌}
-use mathlib.Core.Path.{◌∙◌, ◌≡◌, ap, refl, sym}
+use mathlib.Core.Path.{◌∙◌, ◌≡◌, ap, sym}
 use Prim.Native.Nat.{ℕ}
 use lib.ListN.{drop, length}
-use borrow.Author.Rules.{rules}
 use Rattle.boundary.specs.Codes.{body_of, body_refusal}
 use Rattle.boundary.specs.Given.{point_from}
 use Rattle.day.specs.Date.{date_from}
@@ -13,7 +12,6 @@ use Rattle.numbers.proofs.Machine.{any}
 use Rattle.sky.specs.Answer.{Answer}
 use Rattle.strip.specs.Checks.{steps}
 use Rattle.capi.specs.Answers.{written_one}
-use Rattle.capi.specs.Strips.{coded_azimuths}
 use Rattle.capi.proofs.WrittenLaws.{count_refused_by, count_seen, count_unknown}
 use Rattle.capi.proofs.azimuths.raddlehue_day_azimuths.Goals as goal
 use Rattle.capi.proofs.azimuths.raddlehue_day_azimuths.Goals.{After-body_of, After-day_azimuths, Else-refusal-ne0, Start}
@@ -32,13 +30,13 @@ module _ (s : Start) where
 -- the day's answer, and what it left in the buffer
 module _ (c : After-day_azimuths) where
   abbrev b : After-body_of
-  b = c.before.before
+  b = (goal.at.After-day_azimuths c).After-body_of
 
   abbrev e : Else-refusal-ne0
-  e = b.before.before.before
+  e = (goal.at.After-body_of b).Else-refusal-ne0
 
   abbrev s : Start
-  s = e.before.before.before
+  s = (goal.at.Else-refusal-ne0 e).Start
 
   answer : azimuths_answer c.day_azimuths.result ≡ ruled s
   answer =

@@ -3,7 +3,6 @@ use mathlib.Core.List.{List}
 use mathlib.Core.Path.{◌∙◌, ◌≡◌, ap, sym}
 use Prim.Native.Nat.{ℕ}
 use lib.IntN.{ℤ}
-use borrow.Author.Rules.{rules}
 use Rattle.day.specs.Curve.{curve}
 use Rattle.day.specs.Date.{date_from}
 use Rattle.rise_set.specs.Answer.{RiseSetNumbers, neither, rise_and_set, rise_set_answer}
@@ -37,17 +36,17 @@ module _ (s : Start) where
 -- the day's answer, and what it left of the curve
 module _ (c : After-rise_and_set) where
   abbrev b : After-body_of
-  b = c.before.before
+  b = (goal.at.After-rise_and_set c).After-body_of
 
   abbrev e : Else-refusal-ne0
-  e = b.before.before.before
+  e = (goal.at.After-body_of b).Else-refusal-ne0
 
   abbrev s : Start
-  s = e.before.before
+  s = (goal.at.Else-refusal-ne0 e).Start
 
   answer : rise_set_answer c.rise_and_set.result ≡ asked s
   answer =
-      known (refusal_of s) (ruled s) (refusing s) e.body_refusal-refusal.ensures e.if-refusal-ne0.left
+      known (refusal_of s) (ruled s) (refusing s) e.body_refusal-refusal.ensures e.if-refusal-ne0.false
       (c.rise_and_set.ensures.one_answer.equal ∙ (λ i. rise_and_set (b.date_of-given.ensures i) (b.body_of.ensures i) (b.point_of-place.ensures i)))
 
   kept : c.rise_and_set.new.kept ≡ written_one (asked s).refusal (worked s) s.args.elevations.now

@@ -2,7 +2,6 @@
 use mathlib.Core.Path.{◌∙◌, ◌≡◌, ap, subst⁻¹, sym}
 use Prim.Native.Nat.{◌≤◌, ℕ}
 use lib.IntN.{nat_abs, pos, ℤ}
-use borrow.Author.Rules.{rules}
 use Rattle.overlap.specs.DiskRange.{Radii}
 use Rattle.numbers.proofs.Machine.{any, cast_up, from_nat, nat_fits}
 use Rattle.boundary.specs.Codes.{disks_refusal}
@@ -31,7 +30,7 @@ module _ (s : Start) where
   abbrev value : ℤ
   value = covered_share apart rs rm
 
-refusal_is : (c : After-disks_refusal-refusal) → c.disks_refusal-refusal.result ≡ refusal_of c.before
+refusal_is : (c : After-disks_refusal-refusal) → c.disks_refusal-refusal.result ≡ refusal_of (goal.at.After-disks_refusal-refusal c).Start
 refusal_is c =
     let f = c.ranges in
     c.disks_refusal-refusal.ensures ∙ (λ i. disks_refusal ((any f.separation).same i) ((any f.sun_radius).same i) ((any f.moon_radius).same i))
@@ -39,14 +38,14 @@ refusal_is c =
 -- what no check refuses
 module _ (c : Else-refusal-ne0) where
   abbrev s : Start
-  s = c.before.before
+  s = (goal.at.Else-refusal-ne0 c).Start
 
   accepted : refusal_of s ≡ 0
-  accepted = sym (refusal_is c.before) ∙ c.if-refusal-ne0.false
+  accepted = sym (refusal_is (goal.at.Else-refusal-ne0 c).After-disks_refusal-refusal) ∙ c.if-refusal-ne0.false
 
 module _ (c : After-share-found) where
   abbrev from : Start
-  from = s c.before.before.before
+  from = s (goal.at.After-share-found c).Else-refusal-ne0
 
   share_is : c.share-found.result ≡ share (nat_abs (apart from)) (nat_abs (rs from)) (nat_abs (rm from))
   share_is =

@@ -14,7 +14,7 @@ use Rattle.capi.proofs.disks.raddlehue_eclipse.Goals.{After-solar_eclipse, Start
 -- the answer to what is asked for
 module _ (c : After-solar_eclipse) where
   abbrev s : Start
-  s = c.before.before.before
+  s = (goal.at.After-solar_eclipse c).Start
 
   abbrev asked : Answer Eclipse
   asked = given_eclipse s.args.start.now s.args.point.now
@@ -26,11 +26,10 @@ pub returns-in-Seen : goal.returns-in-Seen
 returns-in-Seen c =
     let a = (goal.at.returns-in-Seen c).After-solar_eclipse in
     let found = c.in-Seen.seen in
-    let given = c.type_inv.seen.given in
-    let separation = passed {r = found.separation} given.0.1 refl in
-    let sun_radius = passed {r = found.sun_radius} given.1.0.1 refl in
-    let moon_radius = passed {r = found.moon_radius} given.1.1.0.1 refl in
-    let share = passed {r = found.share} given.1.1.1.0.1 refl in let all = seen eclipse_values (asked a) (s a).args.eclipse.now (sym (ap eclipse_answer c.in-Seen.is) ∙ answer a)
+    let separation = passed {r = found.separation} (search rules) refl in
+    let sun_radius = passed {r = found.sun_radius} (search rules) refl in
+    let moon_radius = passed {r = found.moon_radius} (search rules) refl in
+    let share = passed {r = found.share} (search rules) refl in let all = seen eclipse_values (asked a) (s a).args.eclipse.now (sym (ap eclipse_answer c.in-Seen.is) ∙ answer a)
     (c.put_four.ensures ∙ (λ i. separation i ∷ sun_radius i ∷ moon_radius i ∷ share i ∷ [])) in record { value = all.0; eclipse_after = all.1 }
 
 pub returns-in-Refused : goal.returns-in-Refused

@@ -13,6 +13,7 @@ use Rattle.moon_sums.proofs.MoonSizes.{moon_longitude_most}
 use Rattle.capi.specs.Instants.{moon_values}
 use Rattle.capi.proofs.InstantLaws.{near, out_of_reach, within_reach}
 use Rattle.capi.proofs.instants.raddlehue_moon_sums_ms.Goals as goal
+use Rattle.capi.proofs.instants.raddlehue_moon_sums_ms.Goals.{After-moon-place}
 
 pub returns-then-refusal-ne0 : goal.returns-then-refusal-ne0
 returns-then-refusal-ne0 c = let all = out_of_reach c.ranges.tt c.reach_refusal-refusal.ensures (moon_values c.args.tt) c.args.sums.now c.if-refusal-ne0.true in record { value = all.0; sums_after = all.1 }
@@ -27,13 +28,9 @@ overflow_cast-place c =
 
 pub returns : goal.returns
 returns c =
-    let told = (goal.at.returns c).After-struct_told-1 in
-    let found = told.before.before.before in
-    let e = found.before in
-    let s = e.before.before in
-    let same = (any s.ranges.tt).same in
-    let place = found.moon-place.ensures in
-    let eastward = to_z_pos w64 found.moon-place.result.longitude (cast_put_triple told.before).sfits ∙ ap pos (place.0 ∙ ap longitude same) in
-    let northward = passed told.type_inv.place.given.1.0.1 (place.1.0 ∙ ap latitude same) in
-    let outward = passed told.type_inv.place.given.1.1.0.1 (place.1.1.0 ∙ ap metres same) in let all = within_reach s.ranges.tt e.reach_refusal-refusal.ensures (moon_values s.args.tt) s.args.sums.now e.if-refusal-ne0.false
+    let same = (any c.ranges.tt).same in
+    let place = c.moon-place.ensures in
+    let eastward = to_z_pos w64 c.moon-place.result.longitude (nat_fits {n = c.moon-place.result.longitude} {m = full_turn} (rw place.0 (moon_longitude_most _)) tt).sfits ∙ ap pos (place.0 ∙ ap longitude same) in
+    let northward = passed {r = c.moon-place.result.latitude} (search rules) (place.1.0 ∙ ap latitude same) in
+    let outward = passed {r = c.moon-place.result.metres} (search rules) (place.1.1.0 ∙ ap metres same) in let all = within_reach c.ranges.tt c.reach_refusal-refusal.ensures (moon_values c.args.tt) c.args.sums.now c.if-refusal-ne0.false
     (c.put_triple.ensures ∙ (λ i. eastward i ∷ northward i ∷ outward i ∷ [])) in record { value = all.0; sums_after = all.1 }

@@ -15,7 +15,7 @@ use Rattle.earth.proofs.NutationLaws.{Δε_most}
 use Rattle.capi.specs.Instants.{nutation_values}
 use Rattle.capi.proofs.InstantLaws as At
 use Rattle.capi.proofs.instants.raddlehue_nutation_ms.Goals as goal
-use Rattle.capi.proofs.instants.raddlehue_nutation_ms.Goals.{After-nutation_at-found, After-powers_at-powers, Else-refusal-ne0}
+use Rattle.capi.proofs.instants.raddlehue_nutation_ms.Goals.{After-nutation_at-found, After-powers_at-powers, Else-refusal-ne0, Start}
 
 -- the instant, as the machine has it
 abbrev at : Else-refusal-ne0 → ℤ
@@ -26,10 +26,10 @@ near c = At.near c.ranges.tt c.reach_refusal-refusal.ensures c.if-refusal-ne0.fa
 
 module _ (c : After-nutation_at-found) where
   abbrev p : After-powers_at-powers
-  p = c.before.before.before
+  p = (goal.at.After-nutation_at-found c).After-powers_at-powers
 
   abbrev e : Else-refusal-ne0
-  e = p.before
+  e = (goal.at.After-powers_at-powers p).Else-refusal-ne0
 
   instant : p.powers_at-powers.result.n ≡ at e
   instant = ap (λ (t : Powers). t.n) p.powers_at-powers.ensures
@@ -55,9 +55,9 @@ obliquity_at-obliquity-requires c = (reached (p (goal.at.obliquity_at-obliquity-
 pub returns : goal.returns
 returns c =
     let d = (goal.at.returns c).After-nutation_at-found in
-    let s = (e d).before.before in
+    let s = (goal.at.Else-refusal-ne0 (e d)).Start in
     let same = (any s.ranges.tt).same in
-    let longitude = passed c.type_inv.found.given.0.1 (d.nutation_at-found.ensures.0 ∙ ap Δψ (instant d ∙ same)) in
+    let longitude = passed {r = d.nutation_at-found.result.longitude} (search rules) (d.nutation_at-found.ensures.0 ∙ ap Δψ (instant d ∙ same)) in
     let slant = (Δε_mirror d).same ∙ ap Δε same in
     let whole = passed c.obliquity_at-obliquity.type_inv (c.obliquity_at-obliquity.ensures ∙ (λ j. mean_obliquity (instant d j) +ℤ (Δε_mirror d).same j) ∙ ap obliquity same) in let all = At.within_reach s.ranges.tt (e d).reach_refusal-refusal.ensures (nutation_values s.args.tt) s.args.nutation.now (e d).if-refusal-ne0.false
     (c.put_triple.ensures ∙ (λ i. longitude i ∷ slant i ∷ whole i ∷ [])) in record { value = all.0; nutation_after = all.1 }

@@ -19,7 +19,7 @@ pub returns : goal.returns
 returns c =
     let same = (any c.ranges.tt).same in
     let place = c.sun-place.ensures in
-    let eastward = passed c.type_inv.place.given.0.1 (place.0 ∙ ap L same) in
-    let northward = passed c.type_inv.place.given.1.0.1 (place.1.0 ∙ ap B same) in
-    let outward = passed c.type_inv.place.given.1.1.0.1 (place.1.1.0 ∙ ap R same) in let all = within_reach c.ranges.tt c.reach_refusal-refusal.ensures (sun_values c.args.tt) c.args.sums.now c.if-refusal-ne0.false
+    let eastward = passed {r = c.sun-place.result.longitude} (search rules) (place.0 ∙ ap L same) in
+    let northward = passed {r = c.sun-place.result.latitude} (search rules) (place.1.0 ∙ ap B same) in
+    let outward = passed {r = c.sun-place.result.radius} (search rules) (place.1.1.0 ∙ ap R same) in let all = within_reach c.ranges.tt c.reach_refusal-refusal.ensures (sun_values c.args.tt) c.args.sums.now c.if-refusal-ne0.false
     (c.put_triple.ensures ∙ (λ i. eastward i ∷ northward i ∷ outward i ∷ [])) in record { value = all.0; sums_after = all.1 }

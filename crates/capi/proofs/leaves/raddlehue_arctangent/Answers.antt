@@ -1,6 +1,5 @@
 -- `capi::leaves::raddlehue_arctangent` meets its contract.
 use mathlib.Core.Path.{◌∙◌, ap}
-use borrow.Author.Rules.{rules}
 use Rattle.arctangent.specs.Direction.{angle_or, mark}
 use Rattle.arctangent.proofs.ArctangentLaws.{gave_direction, gave_reduced}
 use Rattle.numbers.proofs.Machine.{any, passed}

@@ -1,6 +1,5 @@
 -- `capi::leaves::raddlehue_sine` meets its contract.
 use mathlib.Core.Path.{◌∙◌, ap}
-use borrow.Author.Rules.{rules}
 use Rattle.number_rules.specs.Sine.{sine}
 use Rattle.numbers.proofs.Machine.{any, passed}
 use Rattle.capi.proofs.leaves.raddlehue_sine.Goals as goal

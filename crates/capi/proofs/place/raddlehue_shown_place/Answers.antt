@@ -1,7 +1,6 @@
 -- `capi::place::raddlehue_shown_place` meets its contract. The sky's answer is the request's own, where no code is refused; its case says what is written.
 use mathlib.Core.Path.{◌∙◌, ◌≡◌, ap, sym}
 use Prim.Native.Nat.{ℕ}
-use borrow.Author.Rules.{rules}
 use Rattle.sky.specs.Answer.{Answer, shown_answer, shown_place}
 use Rattle.request.specs.Request.{start_from}
 use Rattle.sky.specs.Shown.{nothing_shown}
@@ -31,17 +30,17 @@ module _ (s : Start) where
 -- the sky's answer
 module _ (c : After-shown_place) where
   abbrev b : After-body_of
-  b = c.before.before
+  b = (goal.at.After-shown_place c).After-body_of
 
   abbrev e : Else-refusal-ne0
-  e = b.before.before.before
+  e = (goal.at.After-body_of b).Else-refusal-ne0
 
   abbrev s : Start
-  s = e.before.before
+  s = (goal.at.Else-refusal-ne0 e).Start
 
   answer : shown_answer c.shown_place.result ≡ asked s
   answer =
-      known (refusal_of s) (ruled s) (refusing s) e.code_refusal-refusal.ensures e.if-refusal-ne0.left
+      known (refusal_of s) (ruled s) (refusing s) e.code_refusal-refusal.ensures e.if-refusal-ne0.false
       (c.shown_place.ensures.one_answer.equal
       ∙ (λ i. shown_place (b.start_of.ensures i) (b.body_of.ensures i) (c.point_of.ensures i) (b.air_of-asked.ensures i)))
 

@@ -27,18 +27,18 @@ module _ (s : Start) where
 -- the verdict
 module _ (c : After-judge) where
   abbrev b : After-body_of
-  b = c.before
+  b = (goal.at.After-judge c).After-body_of
 
   abbrev e : Else-refusal-ne0
-  e = b.before.before.before
+  e = (goal.at.After-body_of b).Else-refusal-ne0
 
   abbrev s : Start
-  s = e.before.before.before
+  s = (goal.at.Else-refusal-ne0 e).Start
 
   answer : judgement_answer c.judge.result ≡ asked s
   answer =
       let a = s.args in
-      known (body_refusal a.body) (ruled s) (bodiless s) e.body_refusal-refusal.ensures e.if-refusal-ne0.left
+      known (body_refusal a.body) (ruled s) (bodiless s) e.body_refusal-refusal.ensures e.if-refusal-ne0.false
       (c.judge.ensures.one_answer.equal
       ∙ (λ i. judgement (b.date_of-given.ensures i) (b.body_of.ensures i) (b.point_of-place.ensures i) a.tolerance a.minutes.now a.azimuths.now))
 

@@ -45,13 +45,13 @@ module _ (s : Start) where
 -- the planner's answer, and the buffers as it left them
 module _ (c : After-plan) where
   abbrev b : After-body_of
-  b = c.before.before.before
+  b = (goal.at.After-plan c).After-body_of
 
   abbrev e : Else-refusal-ne0
-  e = b.before.before.before
+  e = (goal.at.After-body_of b).Else-refusal-ne0
 
   abbrev s : Start
-  s = e.before.before
+  s = (goal.at.Else-refusal-ne0 e).Start
 
   rule : planning_answer c.plan.result ≡ ruled s
   rule =
@@ -59,7 +59,7 @@ module _ (c : After-plan) where
       ∙ (λ i. planning (b.date_of-given.ensures i) (b.body_of.ensures i) (b.point_of-place.ensures i) s.args.tolerance)
 
   answer : planning_answer c.plan.result ≡ asked s
-  answer = known (body_refusal s.args.body) (ruled s) (bodiless s) e.body_refusal-refusal.ensures e.if-refusal-ne0.left rule
+  answer = known (body_refusal s.args.body) (ruled s) (bodiless s) e.body_refusal-refusal.ensures e.if-refusal-ne0.false rule
 
   -- by whether there is a plan, and so by the number
   kept : {A : Type 0} (points before : A) → cond (ruled s).value.has points before ≡ written_one (plan_refusal (asked s)) points before

@@ -4,7 +4,6 @@ use mathlib.Core.List.{List}
 use mathlib.Core.Path.{◌∙◌, ◌≡◌, ap, sym}
 use lib.IntN.{ℤ}
 use lib.ListN.{length}
-use borrow.Author.Rules.{rules}
 use Rattle.calendar.proofs.RefusalLaws.{never_late, never_none}
 use Rattle.batch.specs.Batch.{BatchAnswer, azimuth_at, batch, batch_answer, elevation_at, left_in}
 use Rattle.request.specs.Request.{instant, start_from}
@@ -36,18 +35,18 @@ module _ (s : Start) where
 -- the sky's answer, and the buffers as it left them
 module _ (c : After-places_at) where
   abbrev b : After-body_of
-  b = c.before.before.before
+  b = (goal.at.After-places_at c).After-body_of
 
   abbrev e : Else-refusal-ne0
-  e = b.before.before.before
+  e = (goal.at.After-body_of b).Else-refusal-ne0
 
   abbrev s : Start
-  s = e.before.before.before
+  s = (goal.at.Else-refusal-ne0 e).Start
 
   answer : batch_answer c.places_at.result ≡ asked s
   answer =
       let a = s.args in
-      known (body_refusal a.body) (ruled s) (bodiless s) e.body_refusal-refusal.ensures e.if-refusal-ne0.left
+      known (body_refusal a.body) (ruled s) (bodiless s) e.body_refusal-refusal.ensures e.if-refusal-ne0.false
       (c.places_at.ensures.one_answer.equal
       ∙ (λ i. batch (b.start_of-given.ensures i) (b.point_of-place.ensures i) a.offsets.now (length a.azimuths.now) (length a.elevations.now)))
 
@@ -77,21 +76,30 @@ returns-then-refusal-ne0 c =
 pub returns-in-Done : goal.returns-in-Done
 returns-in-Done c =
     let a = (goal.at.returns-in-Done c).After-places_at in
-    let e = sym (ap batch_answer c.in-Done.is) ∙ answer a in let all = (ap (λ (a : BatchAnswer). a.refusal) e, (c.put_counts.ensures ∙ ap (λ (answer : BatchAnswer). told_of_batch answer (s a).args.told.now) e, buffers a)) in record { value = all.0; told_after = all.1.0; azimuths_after = all.1.1.0; elevations_after = all.1.1.1 }
+    let e = sym (ap batch_answer c.in-Done.is) ∙ answer a in record {
+      value = ap (λ (a : BatchAnswer). a.refusal) e;
+      told_after = c.put_counts.ensures ∙ ap (λ (answer : BatchAnswer). told_of_batch answer (s a).args.told.now) e;
+      azimuths_after = (buffers a).0;
+      elevations_after = (buffers a).1;
+    }
 
 pub returns-in-Late : goal.returns-in-Late
 returns-in-Late c =
     let a = (goal.at.returns-in-Late c).After-places_at in
-    let e = sym (ap batch_answer c.in-Late.is) ∙ answer a in let all = (ap (λ (a : BatchAnswer). a.refusal) e, (c.put_counts-in-Late.ensures ∙ ap (λ (answer : BatchAnswer). told_of_batch answer (s a).args.told.now) e, buffers a)) in record { value = all.0; told_after = all.1.0; azimuths_after = all.1.1.0; elevations_after = all.1.1.1 }
+    let e = sym (ap batch_answer c.in-Late.is) ∙ answer a in record {
+      value = ap (λ (a : BatchAnswer). a.refusal) e;
+      told_after = c.put_counts-in-Late.ensures ∙ ap (λ (answer : BatchAnswer). told_of_batch answer (s a).args.told.now) e;
+      azimuths_after = (buffers a).0;
+      elevations_after = (buffers a).1;
+    }
 
 pub returns-in-Refused : goal.returns-in-Refused
 returns-in-Refused c =
     let a = (goal.at.returns-in-Refused c).After-places_at in
     let refusal = c.in-Refused.refused in
-    let e = sym (ap batch_answer c.in-Refused.is) ∙ answer a in let all = (
-      c.number_of.ensures ∙ ap (λ (a : BatchAnswer). a.refusal) e,
-      (
-        untold _ (never_none refusal) (never_late refusal) (s a).args.told.now ∙ ap (λ (answer : BatchAnswer). told_of_batch answer (s a).args.told.now) e,
-        buffers a,
-      ),
-    ) in record { value = all.0; told_after = all.1.0; azimuths_after = all.1.1.0; elevations_after = all.1.1.1 }
+    let e = sym (ap batch_answer c.in-Refused.is) ∙ answer a in record {
+      value = c.number_of.ensures ∙ ap (λ (a : BatchAnswer). a.refusal) e;
+      told_after = untold _ (never_none refusal) (never_late refusal) (s a).args.told.now ∙ ap (λ (answer : BatchAnswer). told_of_batch answer (s a).args.told.now) e;
+      azimuths_after = (buffers a).0;
+      elevations_after = (buffers a).1;
+    }

@@ -7,12 +7,12 @@ use Rattle.strip_reader.specs.declared.reader.StripAzimuth.{StripAzimuth}
 use Rattle.capi.specs.Answers.{written_one}
 use Rattle.capi.specs.Strips.{azimuth_number, azimuth_refusal}
 use Rattle.capi.proofs.strips.raddlehue_strip_azimuth.Goals as goal
-use Rattle.capi.proofs.strips.raddlehue_strip_azimuth.Goals.{After-azimuth_at, Start}
+use Rattle.capi.proofs.strips.raddlehue_strip_azimuth.Goals.{After-azimuth_at, In-NoAzimuth, Start}
 
 -- a case that was found, and what is told of it
 module _ (c : After-azimuth_at) where
   abbrev s : Start
-  s = c.before.before
+  s = (goal.at.After-azimuth_at c).Start
 
   abbrev rule : StripAzimuth
   rule = azimuth_at s.args.part.now s.args.step
@@ -36,7 +36,7 @@ pub returns-in-NoStep : goal.returns-in-NoStep
 returns-in-NoStep c = let all = told (goal.at.returns-in-NoStep c).After-azimuth_at c.in-NoStep.is in record { value = all.0; azimuth_after = all.1 }
 
 pub returns-in-NoAzimuth : goal.returns-in-NoAzimuth
-returns-in-NoAzimuth c = let k = (goal.at.returns-in-NoAzimuth c).In-NoAzimuth in let all = told k.before.before k.in-NoAzimuth.is in record {
+returns-in-NoAzimuth c = let k = (goal.at.returns-in-NoAzimuth c).In-NoAzimuth in let all = told (goal.at.In-NoAzimuth k).After-azimuth_at k.in-NoAzimuth.is in record {
   value = c.number_of.ensures ∙ all.0;
   azimuth_after = all.1;
 }

@@ -18,7 +18,7 @@ use Rattle.capi.proofs.strips.raddlehue_strip_find.Goals.{After-which, Start}
 -- what is found
 module _ (k : After-which) where
   abbrev s : Start
-  s = k.before.before.before
+  s = (goal.at.After-which k).Start
 
   abbrev one : List ℕ
   one = s.args.first.now

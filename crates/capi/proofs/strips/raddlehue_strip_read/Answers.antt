@@ -1,6 +1,5 @@
 -- `capi::strips::raddlehue_strip_read` meets its contract.
 use mathlib.Core.Path.{◌∙◌, ap, sym}
-use borrow.Author.Rules.{rules}
 use Rattle.boundary.specs.Lent.{header_values}
 use Rattle.sky.specs.Answer.{Answer}
 use Rattle.strip.specs.declared.header.Header.{Header}

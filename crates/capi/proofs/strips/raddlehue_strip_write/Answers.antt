@@ -1,16 +1,15 @@
 -- `capi::strips::raddlehue_strip_write` meets its contract. The writer's answer is the request's own, where both codes are known; it says of the buffer and of the count what is written.
 use mathlib.Core.List.{List, ◌++◌}
-use mathlib.Core.Path.{◌∙◌, ◌≡◌, ap, refl, sym}
+use mathlib.Core.Path.{◌∙◌, ◌≡◌, ap, sym}
 use Prim.Native.Nat.{ℕ}
 use lib.ListN.{drop, length}
-use borrow.Author.Rules.{rules}
 use Rattle.boundary.specs.Given.{header_code_refusal}
 use Rattle.sky.specs.Answer.{Answer}
 use Rattle.strip.specs.Format.{Strip, encode, strip_of}
 use Rattle.strip.specs.declared.header.Header.{Header}
 use Rattle.strip_writer.specs.Writing.{left_in, write, write_answer}
 use Rattle.capi.specs.Answers.{written_one}
-use Rattle.capi.specs.Strips.{coded_write, strip_from}
+use Rattle.capi.specs.Strips.{strip_from}
 use Rattle.capi.proofs.WrittenLaws.{count_refused_by, count_seen, count_unknown}
 use Rattle.capi.proofs.strips.raddlehue_strip_write.Goals as goal
 use Rattle.capi.proofs.strips.raddlehue_strip_write.Goals.{After-write, Else-refusal-ne0, Start}
@@ -32,10 +31,10 @@ module _ (s : Start) where
 -- the writer's answer, and what it left in the buffer
 module _ (c : After-write) where
   abbrev e : Else-refusal-ne0
-  e = c.before.before.before
+  e = (goal.at.After-write c).Else-refusal-ne0
 
   abbrev s : Start
-  s = e.before.before.before.before
+  s = (goal.at.Else-refusal-ne0 e).Start
 
   answer : write_answer c.write.result ≡ ruled s
   answer = c.write.ensures.one_answer.equal ∙ ap (λ (h : Header). write (strip_of h s.args.azimuths.now) (length s.args.octets.now)) c.header_of.ensures
