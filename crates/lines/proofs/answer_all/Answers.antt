@@ -1,5 +1,4 @@
-use Rattle.std.specs.Prelude.{Some}
-use Rattle.std.proofs.Common.{◌≡◌, ℕ, List, arith}
+use Rattle.std.proofs.Common.{arith}
 use Rattle.lines.proofs.StreamLaws.{at_first, end_failed, ended, failed, header_failed, if_some, on_err, on_err_more, on_ok, one_more, reads_of_whole}
 use Rattle.lines.proofs.answer_all.Goals as goal
 

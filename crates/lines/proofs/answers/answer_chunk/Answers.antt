@@ -1,12 +1,11 @@
 -- `lines::answers::answer_chunk` meets its contract. The invariant: `at` bytes are answered.
 use mathlib.Core.List.{List, [], ◌∷◌, ◌++◌}
 use mathlib.Core.Path.{◌∙◌, ◌≡◌, ap, refl, subst, sym}
-use Prim.Native.Nat.{◌+◌, ◌-◌, ◌<◌, ◌≤◌, ℕ}
+use Prim.Native.Nat.{◌+◌, ◌<◌, ◌≤◌, ℕ}
 use native.Mathlib.Numerals.{add-one}
 use native.Mathlib.Omega.{arith}
 use lib.ListN.{get_or, length, take}
 use lib.Seq.{length-take-le, take_all, take-suc}
-use borrow.Author.Rules.{rules}
 use Rattle.text.specs.Decimal.{text_room}
 use Rattle.lines.specs.Lines.{Answered}
 use Rattle.lines.proofs.AnswerLaws.{answered_more, answered_none}
@@ -39,7 +38,7 @@ loop-at-preserved c =
       omega (arith, below),
       (
         k.ensures.same_room ∙ c.loop-at.invariant.1.0,
-        subst (λ (part : List ℕ). Answered c.args.form c.args.line part k.new.1.1.1.0 k.result) (taken_more chunk c.loop-at.at below) (answered_more c.loop-at.invariant.1.1 k.ensures),
+        subst (λ (part : List ℕ). Answered c.args.form c.args.line part k.new.out k.result) (taken_more chunk c.loop-at.at below) (answered_more c.loop-at.invariant.1.1 k.ensures),
       ),
     )
 

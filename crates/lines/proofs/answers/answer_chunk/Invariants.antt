@@ -1,14 +1,7 @@
-use mathlib.Core.List.{List, [], ◌∷◌, ◌++◌}
-use mathlib.Core.Path.{◌∙◌, ◌≡◌, ap, refl, subst, sym}
-use Prim.Native.Nat.{◌+◌, ◌-◌, ◌<◌, ◌≤◌, ℕ}
-use native.Mathlib.Numerals.{add-one}
-use native.Mathlib.Omega.{arith}
-use lib.ListN.{get_or, length, take}
-use lib.Seq.{length-take-le, take_all, take-suc}
-use borrow.Author.Rules.{rules}
-use Rattle.text.specs.Decimal.{text_room}
+use mathlib.Core.Path.{◌≡◌}
+use Prim.Native.Nat.{◌-◌, ◌≤◌}
+use lib.ListN.{length, take}
 use Rattle.lines.specs.Lines.{Answered}
-use Rattle.lines.proofs.AnswerLaws.{answered_more, answered_none}
 use Rattle.lines.proofs.answers.answer_chunk.Given as goal
 
 abbrev pub invariant-loop-at : goal.invariant-loop-at

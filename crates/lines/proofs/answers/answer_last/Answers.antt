@@ -2,7 +2,7 @@
 use mathlib.Core.Path.{◌∙◌, ◌≡◌, ap, sym}
 use Prim.Native.Nat.{◌<◌, ℕ}
 use native.Mathlib.Omega.{arith}
-use lib.ListN.{length, length-map, take}
+use lib.ListN.{length, take}
 use lib.Seq.{length-take-le}
 use Rattle.lines.specs.Lines.{held, last_answer, line_room}
 use Rattle.lines.proofs.AnswerLaws.{kept_last, some_last}
@@ -12,7 +12,7 @@ use Rattle.lines.proofs.answers.answer_last.Goals.{Start}
 
 -- the array of the struct has its length
 all_bytes : (s : Start) → length s.args.line.bytes ≡ line_room
-all_bytes s = sym (length-map s.args.line.bytes (λ v. v)) ∙ s.well_formed.1.0.1.1.0.1.0.1
+all_bytes s = search rules
 
 pub returns-then-length-eq0 : goal.returns-then-length-eq0
 unfolding last_answer

@@ -1,10 +1,10 @@
 -- `lines::answers::put` meets its contract. The invariant: `at` bytes are copied.
 use mathlib.Core.List.{List}
 use mathlib.Core.Path.{◌∙◌, ◌≡◌, ap, refl, sym}
-use Prim.Native.Nat.{◌+◌, ◌-◌, ◌<◌, ◌≤◌, ℕ}
+use Prim.Native.Nat.{◌+◌, ◌<◌, ◌≤◌, ℕ}
 use native.Mathlib.Numerals.{add-one}
 use native.Mathlib.Omega.{arith}
-use lib.ListN.{get_or, length, length-map, set, take}
+use lib.ListN.{get_or, length, set, take}
 use lib.Seq.{length-paste, paste, paste-suc, paste-zero, take-paste}
 use borrow.Author.Rules.{rules}
 use Rattle.text.specs.Decimal.{text_room}
@@ -13,11 +13,11 @@ use Rattle.lines.proofs.answers.put.Goals.{At-loop-at, Start}
 
 -- the array of the struct has its length
 all_bytes : (s : Start) → length s.args.text.bytes ≡ text_room
-all_bytes s = sym (length-map s.args.text.bytes (λ v. v)) ∙ s.well_formed.0.1.1.0.1.0.1
+all_bytes s = search rules
 
 module _ (c : At-loop-at) where
   abbrev s : Start
-  s = c.before.before
+  s = (goal.at.At-loop-at c).Start
 
   in_text : c.loop-at.at ≤ length s.args.text.bytes
   in_text = omega (arith, c.loop-at.invariant.0, s.requires.0, all_bytes s)

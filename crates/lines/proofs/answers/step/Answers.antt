@@ -6,7 +6,6 @@ use native.Mathlib.Omega.{arith}
 use lib.ListN.{take}
 use Rattle.lines.specs.Lines.{held, kept}
 use Rattle.lines.proofs.AnswerLaws.{at_newline, at_other}
-use borrow.Author.Rules.{rules}
 use Rattle.lines.proofs.answers.step.Goals as goal
 
 pub returns-then-byte-eq10 : goal.returns-then-byte-eq10

@@ -1,7 +1,7 @@
 -- `lines::line::answer` meets its contract.
-use mathlib.Core.Path.{◌∙◌, ◌≡◌, sym}
+use mathlib.Core.Path.{◌≡◌, sym}
 use native.Mathlib.Omega.{arith}
-use lib.ListN.{length, length-map}
+use lib.ListN.{length}
 use lib.Seq.{length-take-le}
 use borrow.Author.Rules.{rules}
 use Rattle.lines.specs.Lines.{line_room}
@@ -10,7 +10,7 @@ use Rattle.lines.proofs.line.answer.Goals.{Start}
 
 -- the array of the struct has its length
 all_bytes : (s : Start) → length s.args.line.bytes ≡ line_room
-all_bytes s = sym (length-map s.args.line.bytes (λ v. v)) ∙ s.well_formed.1.0.1.1.0.1.0.1
+all_bytes s = search rules
 
 pub slice_bounds-bytes-end : goal.slice_bounds-bytes-end
 slice_bounds-bytes-end c = omega (arith, all_bytes (goal.at.slice_bounds-bytes-end c).Start, c.requires)

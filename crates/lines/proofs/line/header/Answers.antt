@@ -18,15 +18,14 @@ pub enum_told-1 : goal.enum_told-1
 enum_told-1 c = search rules
 
 pub appended_bytes-requires : goal.appended_bytes-requires
-appended_bytes-requires c = omega (arith, none_used (goal.at.appended_bytes-requires c).After-appended_bytes-arg-1)
+appended_bytes-requires c = omega (arith, none_used (goal.at.appended_bytes-requires c).After-empty)
 
 pub returns-in-Sheet : goal.returns-in-Sheet
 unfolding header bytes
-returns-in-Sheet c =
-    let k = (goal.at.returns-in-Sheet c).After-appended_bytes-arg-1 in (
-      omega (arith, none_used k, appended_length c.appended_bytes.ensures),
-      rw k.in-Sheet.is (from_empty k.empty.ensures c.appended_bytes.ensures),
-    )
+returns-in-Sheet c = (
+  omega (arith, none_used (goal.at.returns-in-Sheet c).After-empty, appended_length c.appended_bytes.ensures),
+  rw c.in-Sheet.is (from_empty c.empty.ensures c.appended_bytes.ensures),
+)
 
 pub returns-in-Places : goal.returns-in-Places
 unfolding header

@@ -4,7 +4,7 @@ use mathlib.Core.Path.{◌∙◌, ◌≡◌, ap, sym}
 use Prim.Native.Nat.{◌<◌, ◌≤◌, ℕ}
 use native.Mathlib.Numerals.{add-one}
 use native.Mathlib.Omega.{arith}
-use lib.ListN.{length, length-append, length-map, set, take}
+use lib.ListN.{length, length-append, set, take}
 use lib.Seq.{length-take-le, take_all, take_at, take-suc-set}
 use Rattle.lines.specs.Lines.{held, line_room}
 use borrow.Author.Rules.{rules}
@@ -13,7 +13,7 @@ use Rattle.lines.proofs.line.longer.Goals.{Start}
 
 -- the array of the struct has its length
 all_bytes : (s : Start) → length s.args.line.bytes ≡ line_room
-all_bytes s = sym (length-map s.args.line.bytes (λ v. v)) ∙ s.well_formed.0.1.1.0.1.0.1
+all_bytes s = search rules
 
 pub returns-then-at-ge-LINE_ROOM : goal.returns-then-at-ge-LINE_ROOM
 returns-then-at-ge-LINE_ROOM c =
