@@ -7,15 +7,15 @@ use lib.IntN.{*ℤ_comm, *ℤ-one, +ℤ_assoc, +ℤ_comm, +ℤ_idr, +ℤ_invr, �
 use Rattle.arithmetic.proofs.Difference.{◌⊞◌, ◌⊠◌, by_eq, ⟨◌⟩}
 use Rattle.arithmetic.proofs.Solver.{CRing, Expr, ◌:*◌, ◌:-◌, is_zero, lin, norm, solve, ⟦◌⟧}
 
-pub *ℤ-assoc : (a b c : ℤ) → (a *ℤ b) *ℤ c ≡ a *ℤ (b *ℤ c)
-*ℤ-assoc a b c = by_eq (⟨ a ⟩ ⊠ ⟨ b ⟩ ⊠ ⟨ c ⟩) (⟨ a ⟩ ⊠ (⟨ b ⟩ ⊠ ⟨ c ⟩)) (omega arith)
+pub *ℤ_assoc : (a b c : ℤ) → (a *ℤ b) *ℤ c ≡ a *ℤ (b *ℤ c)
+*ℤ_assoc a b c = by_eq (⟨ a ⟩ ⊠ ⟨ b ⟩ ⊠ ⟨ c ⟩) (⟨ a ⟩ ⊠ (⟨ b ⟩ ⊠ ⟨ c ⟩)) (omega arith)
 
-pub *ℤ-distr : (a b c : ℤ) → a *ℤ (b +ℤ c) ≡ a *ℤ b +ℤ a *ℤ c
-*ℤ-distr a b c = by_eq (⟨ a ⟩ ⊠ (⟨ b ⟩ ⊞ ⟨ c ⟩)) (⟨ a ⟩ ⊠ ⟨ b ⟩ ⊞ ⟨ a ⟩ ⊠ ⟨ c ⟩) (omega arith)
+pub *ℤ_distr : (a b c : ℤ) → a *ℤ (b +ℤ c) ≡ a *ℤ b +ℤ a *ℤ c
+*ℤ_distr a b c = by_eq (⟨ a ⟩ ⊠ (⟨ b ⟩ ⊞ ⟨ c ⟩)) (⟨ a ⟩ ⊠ ⟨ b ⟩ ⊞ ⟨ a ⟩ ⊠ ⟨ c ⟩) (omega arith)
 
-pub *ℤ-unit : (a : ℤ) → a *ℤ pos 1 ≡ a
+pub *ℤ_unit : (a : ℤ) → a *ℤ pos 1 ≡ a
 unfolding one
-*ℤ-unit a = *ℤ-one a
+*ℤ_unit a = *ℤ-one a
 
 abbrev pub ℤ_ring : CRing
 ℤ_ring =
@@ -29,10 +29,10 @@ abbrev pub ℤ_ring : CRing
       add_comm = +ℤ_comm;
       add_zero = +ℤ_idr;
       add_neg = +ℤ_invr;
-      mul_assoc = *ℤ-assoc;
+      mul_assoc = *ℤ_assoc;
       mul_comm = *ℤ_comm;
-      mul_one = *ℤ-unit;
-      mul_add = *ℤ-distr;
+      mul_one = *ℤ_unit;
+      mul_add = *ℤ_distr;
       ι_add = λ a b. refl;
       ι_mul = λ a b. refl;
     }

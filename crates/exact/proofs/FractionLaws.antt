@@ -27,59 +27,59 @@ add_assoc_z a d b e c f de ef l r h₁ h₂ h₃ h₄ = rw (h₃, h₄, h₁, h�
     (((x0 :* x3 :+ x2 :* x1) :* x5 :+ x4 :* (x1 :* x3)) :* (x1 :* (x3 :* x5)))
     ((x0 :* (x3 :* x5) :+ (x2 :* x5 :+ x4 :* x3) :* x1) :* (x1 :* x3 :* x5)) (a ∷ d ∷ b ∷ e ∷ c ∷ f ∷ []) tt)
 
-pub +q-assoc : (p q r : ℚ) → (p +q q) +q r ≡ p +q (q +q r)
+pub +q_assoc : (p q r : ℚ) → (p +q q) +q r ≡ p +q (q +q r)
 unfolding ◌+q◌
-+q-assoc = eq₃ (λ p q r. (p +q q) +q r) (λ p q r. p +q (q +q r)) (λ x y z. sound
++q_assoc = eq₃ (λ p q r. (p +q q) +q r) (λ p q r. p +q (q +q r)) (λ x y z. sound
     (add_assoc_z x.num (den x) y.num (den y) z.num (den z) _ _ _ _
     (den_times x.den_1 y.den_1) (den_times y.den_1 z.den_1) (den_times (times x.den_1 y.den_1) z.den_1) (den_times x.den_1 (times y.den_1 z.den_1))))
 
 add_comm_z : (a d b e l r : ℤ) → l ≡ d *ℤ e → r ≡ e *ℤ d → (a *ℤ e +ℤ b *ℤ d) *ℤ r ≡ (b *ℤ d +ℤ a *ℤ e) *ℤ l
 add_comm_z a d b e l r h₁ h₂ = rw (h₁, h₂) (solveℤ ((x0 :* x3 :+ x2 :* x1) :* (x3 :* x1)) ((x2 :* x1 :+ x0 :* x3) :* (x1 :* x3)) (a ∷ d ∷ b ∷ e ∷ []) tt)
 
-pub +q-comm : (p q : ℚ) → p +q q ≡ q +q p
+pub +q_comm : (p q : ℚ) → p +q q ≡ q +q p
 unfolding ◌+q◌
-+q-comm = eq₂ (λ p q. p +q q) (λ p q. q +q p) (λ x y. sound
++q_comm = eq₂ (λ p q. p +q q) (λ p q. q +q p) (λ x y. sound
     (add_comm_z x.num (den x) y.num (den y) _ _ (den_times x.den_1 y.den_1) (den_times y.den_1 x.den_1)))
 
 add_zero_z : (a d l : ℤ) → l ≡ d *ℤ pos 1 → (a *ℤ pos 1 +ℤ pos 0 *ℤ d) *ℤ d ≡ a *ℤ l
 add_zero_z a d l h = rw h (solveℤ ((x0 :* k1 :+ k0 :* x1) :* x1) (x0 :* (x1 :* k1)) (a ∷ d ∷ []) tt)
 
-pub +q-zero : (p : ℚ) → p +q nat 0 ≡ p
+pub +q_zero : (p : ℚ) → p +q nat 0 ≡ p
 unfolding ◌+q◌ whole
-+q-zero = eq₁ (λ p. p +q nat 0) (λ p. p) (λ x. sound (add_zero_z x.num (den x) _ (den_times x.den_1 0)))
++q_zero = eq₁ (λ p. p +q nat 0) (λ p. p) (λ x. sound (add_zero_z x.num (den x) _ (den_times x.den_1 0)))
 
 add_neg_z : (a d l : ℤ) → l ≡ d *ℤ d → (a *ℤ d +ℤ neg_ℤ a *ℤ d) *ℤ pos 1 ≡ pos 0 *ℤ l
 add_neg_z a d l h = rw h (solveℤ ((x0 :* x1 :+ neg' x0 :* x1) :* k1) (k0 :* (x1 :* x1)) (a ∷ d ∷ []) tt)
 
-pub +q-neg : (p : ℚ) → p +q negq p ≡ nat 0
+pub +q_neg : (p : ℚ) → p +q negq p ≡ nat 0
 unfolding ◌+q◌ whole negq
-+q-neg = eq₁ (λ p. p +q negq p) (λ p. nat 0) (λ x. sound (add_neg_z x.num (den x) _ (den_times x.den_1 x.den_1)))
++q_neg = eq₁ (λ p. p +q negq p) (λ p. nat 0) (λ x. sound (add_neg_z x.num (den x) _ (den_times x.den_1 x.den_1)))
 
 mul_assoc_z : (a d b e c f de ef l r : ℤ) → de ≡ d *ℤ e → ef ≡ e *ℤ f → l ≡ de *ℤ f → r ≡ d *ℤ ef
     → ((a *ℤ b) *ℤ c) *ℤ r ≡ (a *ℤ (b *ℤ c)) *ℤ l
 mul_assoc_z a d b e c f de ef l r h₁ h₂ h₃ h₄ = rw (h₃, h₄, h₁, h₂) (solveℤ
     (((x0 :* x2) :* x4) :* (x1 :* (x3 :* x5))) ((x0 :* (x2 :* x4)) :* (x1 :* x3 :* x5)) (a ∷ d ∷ b ∷ e ∷ c ∷ f ∷ []) tt)
 
-pub *q-assoc : (p q r : ℚ) → (p *q q) *q r ≡ p *q (q *q r)
+pub *q_assoc : (p q r : ℚ) → (p *q q) *q r ≡ p *q (q *q r)
 unfolding ◌*q◌
-*q-assoc = eq₃ (λ p q r. (p *q q) *q r) (λ p q r. p *q (q *q r)) (λ x y z. sound
+*q_assoc = eq₃ (λ p q r. (p *q q) *q r) (λ p q r. p *q (q *q r)) (λ x y z. sound
     (mul_assoc_z x.num (den x) y.num (den y) z.num (den z) _ _ _ _
     (den_times x.den_1 y.den_1) (den_times y.den_1 z.den_1) (den_times (times x.den_1 y.den_1) z.den_1) (den_times x.den_1 (times y.den_1 z.den_1))))
 
 mul_comm_z : (a d b e l r : ℤ) → l ≡ d *ℤ e → r ≡ e *ℤ d → (a *ℤ b) *ℤ r ≡ (b *ℤ a) *ℤ l
 mul_comm_z a d b e l r h₁ h₂ = rw (h₁, h₂) (solveℤ ((x0 :* x2) :* (x3 :* x1)) ((x2 :* x0) :* (x1 :* x3)) (a ∷ d ∷ b ∷ e ∷ []) tt)
 
-pub *q-comm : (p q : ℚ) → p *q q ≡ q *q p
+pub *q_comm : (p q : ℚ) → p *q q ≡ q *q p
 unfolding ◌*q◌
-*q-comm = eq₂ (λ p q. p *q q) (λ p q. q *q p) (λ x y. sound
+*q_comm = eq₂ (λ p q. p *q q) (λ p q. q *q p) (λ x y. sound
     (mul_comm_z x.num (den x) y.num (den y) _ _ (den_times x.den_1 y.den_1) (den_times y.den_1 x.den_1)))
 
 mul_one_z : (a d l : ℤ) → l ≡ d *ℤ pos 1 → (a *ℤ pos 1) *ℤ d ≡ a *ℤ l
 mul_one_z a d l h = rw h (solveℤ ((x0 :* k1) :* x1) (x0 :* (x1 :* k1)) (a ∷ d ∷ []) tt)
 
-pub *q-one : (p : ℚ) → p *q nat 1 ≡ p
+pub *q_one : (p : ℚ) → p *q nat 1 ≡ p
 unfolding ◌*q◌ whole
-*q-one = eq₁ (λ p. p *q nat 1) (λ p. p) (λ x. sound (mul_one_z x.num (den x) _ (den_times x.den_1 0)))
+*q_one = eq₁ (λ p. p *q nat 1) (λ p. p) (λ x. sound (mul_one_z x.num (den x) _ (den_times x.den_1 0)))
 
 distr_z : (a d b e c f ef df de l r : ℤ) → ef ≡ e *ℤ f → df ≡ d *ℤ f → de ≡ d *ℤ e → l ≡ d *ℤ ef → r ≡ de *ℤ df
     → (a *ℤ (b *ℤ f +ℤ c *ℤ e)) *ℤ r ≡ ((a *ℤ b) *ℤ df +ℤ (a *ℤ c) *ℤ de) *ℤ l
@@ -87,9 +87,9 @@ distr_z a d b e c f ef df de l r h₁ h₂ h₃ h₄ h₅ = rw (h₄, h₅, h₁
     ((x0 :* (x2 :* x5 :+ x4 :* x3)) :* ((x1 :* x3) :* (x1 :* x5)))
     (((x0 :* x2) :* (x1 :* x5) :+ (x0 :* x4) :* (x1 :* x3)) :* (x1 :* (x3 :* x5))) (a ∷ d ∷ b ∷ e ∷ c ∷ f ∷ []) tt)
 
-pub *q-distr : (p q r : ℚ) → p *q (q +q r) ≡ p *q q +q p *q r
+pub *q_distr : (p q r : ℚ) → p *q (q +q r) ≡ p *q q +q p *q r
 unfolding ◌+q◌ ◌*q◌
-*q-distr = eq₃ (λ p q r. p *q (q +q r)) (λ p q r. p *q q +q p *q r) (λ x y z. sound
+*q_distr = eq₃ (λ p q r. p *q (q +q r)) (λ p q r. p *q q +q p *q r) (λ x y z. sound
     (distr_z x.num (den x) y.num (den y) z.num (den z) _ _ _ _ _
     (den_times y.den_1 z.den_1) (den_times x.den_1 z.den_1) (den_times x.den_1 y.den_1) (den_times x.den_1 (times y.den_1 z.den_1))
     (den_times (times x.den_1 y.den_1) (times x.den_1 z.den_1))))
@@ -116,14 +116,14 @@ abbrev pub ℚ_ring : CRing
   mul = ◌*q◌;
   neg = negq;
   ι = whole;
-  add_assoc = +q-assoc;
-  add_comm = +q-comm;
-  add_zero = +q-zero;
-  add_neg = +q-neg;
-  mul_assoc = *q-assoc;
-  mul_comm = *q-comm;
-  mul_one = *q-one;
-  mul_add = *q-distr;
+  add_assoc = +q_assoc;
+  add_comm = +q_comm;
+  add_zero = +q_zero;
+  add_neg = +q_neg;
+  mul_assoc = *q_assoc;
+  mul_comm = *q_comm;
+  mul_one = *q_one;
+  mul_add = *q_distr;
   ι_add = whole_add;
   ι_mul = whole_mul;
 }

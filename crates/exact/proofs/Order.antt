@@ -87,18 +87,18 @@ halve p h = go (total p)
 pub leby : (e f d : Expr) (ρ : List ℚ) → T (is_zero (norm ((f :- e) :- d))) → NN (⟦ ℚ_ring ⟧ d ρ) → ⟦ ℚ_ring ⟧ e ρ ≤q ⟦ ℚ_ring ⟧ f ρ
 leby e f d ρ t h = record { diff = nnby (f :- e) d ρ t h }
 
-pub ≤q-refl : (p : ℚ) → p ≤q p
-≤q-refl p = leby x0 x0 k0 (p ∷ []) tt (nn_int 0)
+pub ≤q_refl : (p : ℚ) → p ≤q p
+≤q_refl p = leby x0 x0 k0 (p ∷ []) tt (nn_int 0)
 
-pub ≤q-trans : {p q r : ℚ} → p ≤q q → q ≤q r → p ≤q r
-≤q-trans {p} {q} {r} h l = leby x0 x2 ((x1 :- x0) :+ (x2 :- x1)) (p ∷ q ∷ r ∷ []) tt (h.diff ⊹ l.diff)
+pub ≤q_trans : {p q r : ℚ} → p ≤q q → q ≤q r → p ≤q r
+≤q_trans {p} {q} {r} h l = leby x0 x2 ((x1 :- x0) :+ (x2 :- x1)) (p ∷ q ∷ r ∷ []) tt (h.diff ⊹ l.diff)
 
-pub ≤q-add : {p q r s : ℚ} → p ≤q q → r ≤q s → p +q r ≤q q +q s
-≤q-add {p} {q} {r} {s} h l = leby (x0 :+ x2) (x1 :+ x3) ((x1 :- x0) :+ (x3 :- x2)) (p ∷ q ∷ r ∷ s ∷ []) tt (h.diff ⊹ l.diff)
+pub ≤q_add : {p q r s : ℚ} → p ≤q q → r ≤q s → p +q r ≤q q +q s
+≤q_add {p} {q} {r} {s} h l = leby (x0 :+ x2) (x1 :+ x3) ((x1 :- x0) :+ (x3 :- x2)) (p ∷ q ∷ r ∷ s ∷ []) tt (h.diff ⊹ l.diff)
 
 -- 0 ≤ p ≤ q and 0 ≤ r ≤ s give p r ≤ q s
-pub ≤q-mul : {p q r s : ℚ} → NN p → NN s → p ≤q q → r ≤q s → p *q r ≤q q *q s
-≤q-mul {p} {q} {r} {s} np ns h l = leby (x0 :* x2) (x1 :* x3) ((x1 :- x0) :* x3 :+ x0 :* (x3 :- x2)) (p ∷ q ∷ r ∷ s ∷ []) tt (h.diff ∗ ns ⊹ np ∗ l.diff)
+pub ≤q_mul : {p q r s : ℚ} → NN p → NN s → p ≤q q → r ≤q s → p *q r ≤q q *q s
+≤q_mul {p} {q} {r} {s} np ns h l = leby (x0 :* x2) (x1 :* x3) ((x1 :- x0) :* x3 :+ x0 :* (x3 :- x2)) (p ∷ q ∷ r ∷ s ∷ []) tt (h.diff ∗ ns ⊹ np ∗ l.diff)
 
 pub within_nn : {x b : ℚ} → Within x b → NN b
 within_nn {x} {b} h = halve b (nnby (x1 :+ x1) ((x1 :+ x0) :+ (x1 :- x0)) (x ∷ b ∷ []) tt (h.lo ⊹ h.hi))

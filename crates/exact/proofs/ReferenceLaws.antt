@@ -14,7 +14,7 @@ use Rattle.exact.specs.Reference.{brought, cos°, sin°, π}
 use Rattle.exact.proofs.Addition.{cos₄₀, sin₄₀}
 use Rattle.exact.proofs.Floors.{In, fraction_floor, nat_add}
 use Rattle.exact.proofs.FractionLaws.{inv_mul, linq, solveq, whole_add, whole_neg, whole_sub}
-use Rattle.exact.proofs.Order.{◌∗◌, ◌⊹◌, leby, nn_int, nnby, total, within_add, within_le, within_mul, within_neg, within_self, within_sub, ≤q-trans}
+use Rattle.exact.proofs.Order.{◌∗◌, ◌⊹◌, leby, nn_int, nnby, total, within_add, within_le, within_mul, within_neg, within_self, within_sub, ≤q_trans}
 use Rattle.exact.proofs.Rotation.{Wave, across, cosine_wave, half_back, quarter_back, quarter_on, sine_wave, step, stepped, tiny, tiny_nn, π/2}
 use Rattle.exact.proofs.Terms.{cosine_series_is, sine_series_is}
 use Rattle.exact.proofs.UnitCircle.{one+, wide}
@@ -79,7 +79,7 @@ pub to_wide : {p : ℚ} → Within p (nat 180) → Within (p *q radian) wide
 to_wide h = within_le (in_radians h) half_wide
 
 small_wide : {δ : ℚ} → δ ≤q slack → δ *q radian ≤q wide
-small_wide {δ} l = ≤q-trans (leby (x0 :* x2) (x1 :* x2) ((x1 :- x0) :* x2) (δ ∷ slack ∷ radian ∷ []) tt (l.diff ∗ radian_nn)) slack_wide
+small_wide {δ} l = ≤q_trans (leby (x0 :* x2) (x1 :* x2) ((x1 :- x0) :* x2) (δ ∷ slack ∷ radian ∷ []) tt (l.diff ∗ radian_nn)) slack_wide
 
 -- two angles within half a turn are not two turns or more apart
 apart : {p q e : ℚ} (k : ℕ) → Within p (nat 180) → Within q (nat 180) → Within e slack → p ≡ q +q nat 360 *q (nat k +q nat 2) +q e → ⊥

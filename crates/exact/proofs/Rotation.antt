@@ -10,7 +10,7 @@ use Rattle.exact.specs.Fraction.{NN, Within, ◌*q◌, ◌+q◌, ◌-q◌, ◌ov
 use Rattle.exact.specs.Reference.{sum, π}
 use Rattle.exact.proofs.Addition.{cos_term, cos_within, cos₄₀, exp_sum, exp_term, exp₄₀, sin_term, sin_within, sin₄₀}
 use Rattle.exact.proofs.FractionLaws.{solveq}
-use Rattle.exact.proofs.Order.{within_add, within_le, within_mul, within_neg, within_sub, ≤q-add, ≤q-refl, ≤q-trans}
+use Rattle.exact.proofs.Order.{within_add, within_le, within_mul, within_neg, within_sub, ≤q_add, ≤q_refl, ≤q_trans}
 use Rattle.exact.proofs.Series.{tail_within}
 use Rattle.exact.proofs.UnitCircle.{cos_even, cos_le, cosine_sum, one+, sin_le, sin_odd, sine_sum, wide, wide_wide, wider, ε}
 
@@ -101,7 +101,7 @@ module _ {f g : ℚ → ℚ} (W : Wave f g) where
   stepped {v} {d} {δ} hv hd l =
       subst (λ z. Within z (step δ))
       (solveq ((x0 :- (x1 :* x2 :+ x3 :* x4)) :+ x1 :* (x2 :- k1) :+ x3 :* (x4 :- k0)) (x0 :- x1) (f (v +q d) ∷ f v ∷ cos₄₀ d ∷ g v ∷ sin₄₀ d ∷ []) tt)
-      (within_add (within_add (W.add hv hd (≤q-trans (≤q-add (≤q-refl wide) l) wide_wide))
+      (within_add (within_add (W.add hv hd (≤q_trans (≤q_add (≤q_refl wide) l) wide_wide))
       (within_mul (W.small hv) (subst (λ z. Within (cos₄₀ d -q z) (exp₄₀ δ -q exp_sum 2 δ)) (cos_2 d) (tail_within (cos_term d) (exp_term δ) (cos_within hd) (lit≤ tt)))))
       (within_mul (W.small' hv) (subst (λ z. Within (sin₄₀ d -q z) (exp₄₀ δ -q exp_sum 1 δ)) (sin_1 d) (tail_within (sin_term d) (exp_term δ) (sin_within hd) (lit≤ tt)))))
 

@@ -13,7 +13,7 @@ use Rattle.exact.specs.Reference.{cos°, sin°, sum, π}
 use Rattle.exact.proofs.Addition.{exp_term, sin₄₀}
 use Rattle.exact.proofs.Floors.{in_within, nat_add, nat_le, nat_sub, whole_split}
 use Rattle.exact.proofs.FractionLaws.{linq, solveq, whole_add, whole_neg}
-use Rattle.exact.proofs.Order.{◌∗◌, ◌⊹◌, leby, nn_int, nn_inv, nnby, within_add, within_le, within_mul, within_neg, within_self, within_sub, ≤q-trans}
+use Rattle.exact.proofs.Order.{◌∗◌, ◌⊹◌, leby, nn_int, nn_inv, nnby, within_add, within_le, within_mul, within_neg, within_self, within_sub, ≤q_trans}
 use Rattle.exact.proofs.ReferenceLaws.{exactly, moving, quarter_error, quarter_on°, radian, sine_reference}
 use Rattle.exact.proofs.Rotation.{half_back, half_on, sine_wave, tiny, tiny_nn}
 use Rattle.exact.proofs.UnitCircle.{sin_odd, wide}
@@ -133,7 +133,7 @@ module _ (x : ℤ) where
       subst (λ z. Within (whole z -q billion *q sin° (degrees x)) sine_error) (sym (sign_low (quarter_sine (fold a)) l ∙ ap (λ n. pos (quarter_sine n)) (fold_low l)))
       (within_le
       (from_series (nat (quarter_sine (half_fold a))) ⌊ x ÷ full_turn ⌋ in_range in_degrees (subst (λ z. Within (nat (quarter_sine (half_fold a)) -q billion *q sin₄₀ z) half_error) (radians_of a) (half_near a (omega arith))))
-      (≤q-trans (leby (x0 :+ x2) (x0 :+ x1 :+ x2) x1 (half_error ∷ (billion *q tiny) ∷ (billion *q moving (nat 0)) ∷ []) tt (nn_int 1_000_000_000 ∗ tiny_nn)) sine_ok))
+      (≤q_trans (leby (x0 :+ x2) (x0 :+ x1 :+ x2) x1 (half_error ∷ (billion *q tiny) ∷ (billion *q moving (nat 0)) ∷ []) tt (nn_int 1_000_000_000 ∗ tiny_nn)) sine_ok))
     where
       in_range : Within (nat a over 100_000_000) (nat 180)
       in_range =

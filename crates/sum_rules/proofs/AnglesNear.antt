@@ -12,7 +12,7 @@ use Rattle.exact.proofs.Addition.{cos₄₀, sin₄₀}
 use Rattle.exact.proofs.Floors.{whole_split}
 use Rattle.exact.proofs.FractionLaws.{inv_mul, linq₂, solveq, whole_add, whole_mul, whole_neg}
 use Rattle.exact.proofs.LinearStep.{linear, small}
-use Rattle.exact.proofs.Order.{◌∗◌, ◌⊹◌, leby, nn_int, nn_inv, within_add, within_le, within_mul, within_neg, within_nn, within_self, within_sub, ≤q-trans}
+use Rattle.exact.proofs.Order.{◌∗◌, ◌⊹◌, leby, nn_int, nn_inv, within_add, within_le, within_mul, within_neg, within_nn, within_self, within_sub, ≤q_trans}
 use Rattle.exact.proofs.ReferenceLaws.{Reference, cosine_reference, moved, moving, radian, sine_reference, slack}
 use Rattle.exact.proofs.Rotation.{step, tiny}
 use Rattle.exact.proofs.UnitCircle.{one+, ε}
@@ -140,11 +140,11 @@ one_ok = record { diff = record { is = tt } }
 abbrev pub ripple : ℚ → ℚ
 ripple δ = nat 7 +q δ *q slope
 
-≤q-times : {p q r : ℚ} → p ≤q q → NN r → p *q r ≤q q *q r
-≤q-times {p} {q} {r} l h = leby (x0 :* x2) (x1 :* x2) ((x1 :- x0) :* x2) (p ∷ q ∷ r ∷ []) tt (l.diff ∗ h)
+≤q_times : {p q r : ℚ} → p ≤q q → NN r → p *q r ≤q q *q r
+≤q_times {p} {q} {r} l h = leby (x0 :* x2) (x1 :* x2) ((x1 :- x0) :* x2) (p ∷ q ∷ r ∷ []) tt (l.diff ∗ h)
 
 in_slack : {δ : ℚ} → δ ≤q widest → δ over 100_000_000 ≤q slack
-in_slack l = ≤q-trans (≤q-times l (nn_inv 99_999_999)) widest_slack
+in_slack l = ≤q_trans (≤q_times l (nn_inv 99_999_999)) widest_slack
 
 linear_ripple : {δ : ℚ} → NN δ → δ ≤q widest → nat 6 +q billion *q moving (δ over 100_000_000) ≤q ripple δ
 linear_ripple {δ} h l =
@@ -155,7 +155,7 @@ linear_ripple {δ} h l =
     (seven_ok.diff ⊹ nn_int 1_000_000_000 ∗ (linear (h ∗ nn_inv 99_999_999 ∗ radian_nn) in_reach).diff ⊹ h ∗ slope_ok.diff)
   where
     in_reach : δ over 100_000_000 *q radian ≤q small
-    in_reach = ≤q-trans (≤q-times (in_slack l) radian_nn) slack_small
+    in_reach = ≤q_trans (≤q_times (in_slack l) radian_nn) slack_small
 
 -- what is known of a whole wave f and its reference g
 pub record Wave (f : ℤ → ℤ) (g : ℚ → ℚ) : Type 0 where

@@ -14,7 +14,7 @@ use Rattle.arithmetic.proofs.Solver.{◌:*◌, ◌:+◌, ◌:-◌, k0, k1, neg',
 use Rattle.exact.specs.Fraction.{NN, Within, ◌*q◌, ◌+q◌, ◌-q◌, ◌over◌, floor, inv, nat, negq, nn, whole, ℚ}
 use Rattle.exact.specs.Reference.{brought, cos°, power, sin°}
 use Rattle.exact.proofs.Floors.{fraction_floor, in_within}
-use Rattle.exact.proofs.FractionLaws.{*q-assoc, inv_mul, linq, solveq, whole_add, whole_mul, whole_neg}
+use Rattle.exact.proofs.FractionLaws.{*q_assoc, inv_mul, linq, solveq, whole_add, whole_mul, whole_neg}
 use Rattle.exact.proofs.Horner.{cos_horner, cos₄₀_is, horner, sin_horner, sin₄₀_is}
 use Rattle.exact.proofs.Order.{◌∗◌, nn_int, nn_inv, within_mul, within_neg, within_self, within_sub, within_test}
 use Rattle.exact.proofs.ReferenceLaws.{cosine_reference, radian, sine_reference}
@@ -243,7 +243,7 @@ module _ (τ : ℚ) where
     number = total (λ row. floor (fine *q power τ i *q ray_by row)) rows;
     error = totalq (λ _. nat 1) rows;
     near =
-        subst (λ v. Within (whole (total (λ row. floor (fine *q power τ i *q ray_by row)) rows) -q v) (totalq (λ _. nat 1) rows)) (*q-assoc fine (power τ i) (totalq (ray τ) rows))
+        subst (λ v. Within (whole (total (λ row. floor (fine *q power τ i *q ray_by row)) rows) -q v) (totalq (λ _. nat 1) rows)) (*q_assoc fine (power τ i) (totalq (ray τ) rows))
         (rows_near (fine *q power τ i) ray_by ray_by_is rows);
   }
 

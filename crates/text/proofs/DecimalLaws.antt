@@ -12,7 +12,7 @@ use lib.ListN.{drop, length, length-append, set, take}
 use lib.Seq.{length-take-le, sets, sets-eq, take_at}
 use lib.Signed.{◌<ℤ◌, ◌≤ℤ◌}
 use borrow.Author.Tests.{le-ltb, lt-ltb, ltb-false, ltb-true}
-use Rattle.text.specs.Decimal.{Appended, ◌followed-by◌, decimal, decimals, digits, last_digits, padded, point, signed, with_point, written}
+use Rattle.text.specs.Decimal.{Appended, ◌followed_by◌, decimal, decimals, digits, last_digits, padded, point, signed, with_point, written}
 use Rattle.text.specs.Line.{minus}
 use Rattle.text.specs.declared.decimal.Text.{Text}
 
@@ -22,8 +22,8 @@ sets_append [] more bytes at = ap (λ (n : ℕ). sets bytes n more) (sym (add-ze
 sets_append (byte ∷ rest) more bytes at =
     sets_append rest more (set bytes at byte) (suc at) ∙ ap (λ (n : ℕ). sets (sets (set bytes at byte) (suc at) rest) n more) (suc-add at (length rest) ∙ sym (add-suc at (length rest)))
 
-followed_twice : (text : Text) (added more : List ℕ) → (text followed-by added followed-by more) ≡ (text followed-by (added ++ more))
-unfolding ◌followed-by◌
+followed_twice : (text : Text) (added more : List ℕ) → (text followed_by added followed_by more) ≡ (text followed_by (added ++ more))
+unfolding ◌followed_by◌
 followed_twice text added more i =
     record {
       bytes = sym (sets_append added more text.bytes text.length) i;
@@ -35,18 +35,18 @@ followed_twice text added more i =
 
 -- where there is room, the bytes in use are the old ones and the new ones
 module _ (text : Text) (added : List ℕ) (h : text.length + length added ≤ length text.bytes) where
-  in_use_then : written (text followed-by added) ≡ written text ++ added
-  unfolding ◌followed-by◌
+  in_use_then : written (text followed_by added) ≡ written text ++ added
+  unfolding ◌followed_by◌
   in_use_then =
       ap (take (text.length + length added)) (sets-eq added text.bytes text.length h)
       ∙ take_at (written text ++ added) (drop (text.length + length added) text.bytes) (text.length + length added)
       (length-append (written text) added ∙ ap (λ (n : ℕ). n + length added) (length-take-le text.length text.bytes (omega arith)))
 
-  pub appended : {next : Text} → next ≡ (text followed-by added) → Appended text added next
+  pub appended : {next : Text} → next ≡ (text followed_by added) → Appended text added next
   appended e = record { whole = e; in_use = ap written e ∙ in_use_then }
 
 pub appended_none : (text : Text) → Appended text [] text
-unfolding ◌followed-by◌
+unfolding ◌followed_by◌
 appended_none text =
     record {
       whole = λ i. record { bytes = text.bytes; length = sym (add-zero text.length) i };
@@ -57,12 +57,12 @@ pub appended_twice : {text middle next : Text} {added more : List ℕ} → Appen
     → Appended text (added ++ more) next
 appended_twice {text} {added} {more} a b =
     record {
-      whole = b.whole ∙ ap (λ (t : Text). t followed-by more) a.whole ∙ followed_twice text added more;
+      whole = b.whole ∙ ap (λ (t : Text). t followed_by more) a.whole ∙ followed_twice text added more;
       in_use = b.in_use ∙ ap (λ (s : List ℕ). s ++ more) a.in_use ∙ append_assoc (written text) added more;
     }
 
 pub appended_length : {text next : Text} {added : List ℕ} → Appended text added next → next.length ≡ text.length + length added
-unfolding ◌followed-by◌
+unfolding ◌followed_by◌
 appended_length a = ap (λ (t : Text). t.length) a.whole
 
 -- ---- digits

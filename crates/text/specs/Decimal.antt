@@ -46,12 +46,12 @@ text_room = 80
 abbrev pub written : Text → List ℕ
 written text = take text.length text.bytes
 
-infixl 20 ◌followed-by◌
+infixl 20 ◌followed_by◌
 -- these bytes stored behind those in use
-unfoldable pub ◌followed-by◌ : Text → List ℕ → Text
-text followed-by added = record { bytes = sets text.bytes text.length added; length = text.length + length added }
+unfoldable pub ◌followed_by◌ : Text → List ℕ → Text
+text followed_by added = record { bytes = sets text.bytes text.length added; length = text.length + length added }
 
 -- what appending gives: the whole text, and with it the bytes in use
 pub record Appended (text : Text) (added : List ℕ) (next : Text) : Type 0 where
-  pub whole : next ≡ (text followed-by added)
+  pub whole : next ≡ (text followed_by added)
   pub in_use : written next ≡ written text ++ added
