@@ -6,6 +6,9 @@ ghost use Rattle.lines.specs.Lines.{Answered, Ended, Stepped, line_room};
 use super::line::{Form, Line, answer, longer, no_line};
 use text::decimal::Text;
 
+// A line ends at it; `newline` of the specs.
+const NEWLINE: u8 = b'\n';
+
 // The line so far, and how many bytes of the buffer are in use.
 #[derive(Clone, Copy)]
 pub struct Turn {
@@ -36,7 +39,7 @@ fn step(form: Form, turn: Turn, byte: u8, out: &mut [u8]) -> Turn
 {
     let line = turn.line;
     let used = turn.used;
-    if byte == b'\n' {
+    if byte == NEWLINE {
         let next = put(answer(form, line), out, used);
         return Turn {
             line: no_line(),

@@ -8,9 +8,9 @@ use Rattle.lines.specs.Lines.{held, kept}
 use Rattle.lines.proofs.AnswerLaws.{at_newline, at_other}
 use Rattle.lines.proofs.answers.step.Goals as goal
 
-pub returns-then-byte-eq10 : goal.returns-then-byte-eq10
-returns-then-byte-eq10 c =
-    let new = at_newline c.args.form (held c.args.turn.line) c.if-byte-eq10.true in
+pub returns-then-byte-eq-NEWLINE : goal.returns-then-byte-eq-NEWLINE
+returns-then-byte-eq-NEWLINE c =
+    let new = at_newline c.args.form (held c.args.turn.line) c.if-byte-eq-NEWLINE.true in
     record {
       line_within = c.no_line.ensures.0;
       used_within = omega (arith, c.put-next.ensures.value.0, c.answer.ensures.0);
@@ -21,7 +21,7 @@ returns-then-byte-eq10 c =
 
 pub returns : goal.returns
 returns c =
-    let other = at_other c.args.form (held c.args.turn.line) c.if-byte-eq10.false in
+    let other = at_other c.args.form (held c.args.turn.line) c.if-byte-eq-NEWLINE.false in
     record {
       line_within = c.longer.ensures.0;
       used_within = omega arith;
