@@ -11,5 +11,6 @@ pub fn short_arctangent(y: i64, x: i64) -> u64
 {
     let angle = slope(y, x) as u64;
     let other = Angle::FULL - angle;
-    if other < angle { other } else { angle }
+    let shorter = other < angle;
+    if shorter { other } else { angle }
 }

@@ -99,6 +99,7 @@ pub fn are_turned(azimuths: &[i64]) -> bool
 }
 
 // An azimuth to each minute, and neither too few nor too many.
+#[tactic(auto, unfolding(crate::specs::Points::is_counted))]
 fn is_counted(points: usize, azimuths: usize) -> bool
     ensures { result ≡ is_counted points azimuths }
 {
@@ -112,6 +113,7 @@ fn is_counted(points: usize, azimuths: usize) -> bool
 }
 
 // All that 29 asks.
+#[tactic(auto, using(crate::proofs::PointLaws::counted), unfolding(crate::specs::Points::is_formed))]
 pub fn is_formed(minutes: &[u32], azimuths: &[i64]) -> bool
     ensures { result ≡ is_formed minutes.now azimuths.now }
 {

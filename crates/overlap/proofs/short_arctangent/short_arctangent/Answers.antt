@@ -28,16 +28,16 @@ overflow_cast-angle c = to_nat ((found (goal.at.overflow_cast-angle c).After-slo
 pub overflow_sub-other : goal.overflow_sub-other
 overflow_sub-other c = asked (found (goal.at.overflow_sub-other c).After-slope-angle) tt
 
-pub returns-then-other-angle : goal.returns-then-other-angle
+pub returns-then-shorter : goal.returns-then-shorter
 unfolding short_arctangent
-returns-then-other-angle c =
-    let k = (goal.at.returns-then-other-angle c).After-slope-angle in
+returns-then-shorter c =
+    let k = (goal.at.returns-then-shorter c).After-slope-angle in
     ap (λ (z : ℤ). full_turn - nat_abs z) (found k).same
-    ∙ sym (other_way (nat_abs (found k).number) (subst (λ (z : ℤ). full_turn - nat_abs z < nat_abs z) (found k).same c.if-other-angle.true))
+    ∙ sym (other_way (nat_abs (found k).number) (subst (λ (z : ℤ). full_turn - nat_abs z < nat_abs z) (found k).same c.if-shorter.true))
 
-pub returns-else-other-angle : goal.returns-else-other-angle
+pub returns-else-shorter : goal.returns-else-shorter
 unfolding short_arctangent
-returns-else-other-angle c =
-    let k = (goal.at.returns-else-other-angle c).After-slope-angle in
+returns-else-shorter c =
+    let k = (goal.at.returns-else-shorter c).After-slope-angle in
     ap nat_abs (found k).same
-    ∙ sym (same_way (nat_abs (found k).number) (subst (λ (z : ℤ). nat_abs z ≤ full_turn - nat_abs z) (found k).same c.if-other-angle.false))
+    ∙ sym (same_way (nat_abs (found k).number) (subst (λ (z : ℤ). nat_abs z ≤ full_turn - nat_abs z) (found k).same c.if-shorter.false))
