@@ -116,7 +116,8 @@ pub fn places_at(
         return Batch::Refused(refusal);
     }
     let late = first_late(utc_of(start), offsets);
-    if late < offsets.len() {
+    let is_past = late < offsets.len();
+    if is_past {
         return Batch::Late(late);
     }
     let table = table();

@@ -29,11 +29,8 @@ pub fn distance(a: u64, b: u64) -> u64
     ensures { result ≡ distance a b }
 {
     let arc = clockwise(a, b);
-    if arc <= Angle::HALF {
-        arc
-    } else {
-        Angle::FULL - arc
-    }
+    let near = arc <= Angle::HALF;
+    if near { arc } else { Angle::FULL - arc }
 }
 
 // The azimuth at a minute of a leg. Where the way runs backward, what is taken off is rounded up, which is the floor of what is below zero.
@@ -46,7 +43,8 @@ pub fn value_on(leg: Leg, minute: usize) -> u64
     let all = (leg.last - first) as u64;
     let part = (minute - first) as u64;
     let arc = clockwise(start, leg.end);
-    if arc < Angle::HALF {
+    let forward = arc < Angle::HALF;
+    if forward {
         (start + arc * part / all) % Angle::FULL
     } else {
         let back = ((Angle::FULL - arc) * part + (all - 1)) / all;

@@ -97,7 +97,7 @@ module _ (c : After-instant_of) where
   s₃ = s₂ (e late_in)
 
   none_late : first_late (utc (start s₃)) (offsets s₃) ≡ length (offsets s₃)
-  none_late = omega (arith, late_most (utc (start s₃)) (offsets s₃), late_is late_in, c.if-late-offsets.false)
+  none_late = omega (arith, late_most (utc (start s₃)) (offsets s₃), late_is late_in, c.if-is_past.false)
 
   all_reachable : AllReachable (instant (start s₃)) (offsets s₃)
   all_reachable =
@@ -131,13 +131,13 @@ pub first_late-late-requires : goal.first_late-late-requires
 first_late-late-requires c =
     rw (passed c.utc_of.type_inv c.utc_of.ensures) (utc_small (start (s₂ (goal.at.first_late-late-requires c).In_default)) (start_good (goal.at.first_late-late-requires c).In_default))
 
-pub returns-then-late-offsets : goal.returns-then-late-offsets
+pub returns-then-is_past : goal.returns-then-is_past
 unfolding batch
-returns-then-late-offsets c =
-    let e = (goal.at.returns-then-late-offsets c).In_default in
+returns-then-is_past c =
+    let e = (goal.at.returns-then-is_past c).In_default in
     let s = s₂ e in
-    let apart : first_late (utc (start s)) (offsets s) ≡ length (offsets s) → ⊥ = λ same. omega (arith, c.if-late-offsets.true, late_is (goal.at.returns-then-late-offsets c).After-first_late-late, same) in record {
-      one_answer = one_batch (simp (eq-eqb _ _ (passes e), ne_eqb _ _ apart, late_is (goal.at.returns-then-late-offsets c).After-first_late-late));
+    let apart : first_late (utc (start s)) (offsets s) ≡ length (offsets s) → ⊥ = λ same. omega (arith, c.if-is_past.true, late_is (goal.at.returns-then-is_past c).After-first_late-late, same) in record {
+      one_answer = one_batch (simp (eq-eqb _ _ (passes e), ne_eqb _ _ apart, late_is (goal.at.returns-then-is_past c).After-first_late-late));
       azimuths_after = refl;
       elevations_after = refl;
       samples_near = every_sample_near (start s) (point s) (offsets s) (azimuths s) (elevations s);

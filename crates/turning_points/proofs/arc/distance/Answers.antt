@@ -6,14 +6,14 @@ use Rattle.turning_points.proofs.arc.distance.Goals as goal
 pub overflow_sub-result : goal.overflow_sub-result
 overflow_sub-result c = let a = c.args in omega (arith, c.clockwise-arc.ensures, clockwise_below a.a a.b)
 
-pub returns-then-arc-le-HALF : goal.returns-then-arc-le-HALF
-returns-then-arc-le-HALF c =
+pub returns-then-near : goal.returns-then-near
+returns-then-near c =
     let a = c.args in
     let arc = c.clockwise-arc.ensures in
     omega (arith, arc, distance_near a.a a.b (omega (arith, arc)))
 
-pub returns-else-arc-le-HALF : goal.returns-else-arc-le-HALF
-returns-else-arc-le-HALF c =
+pub returns-else-near : goal.returns-else-near
+returns-else-near c =
     let a = c.args in
     let arc = c.clockwise-arc.ensures in
     omega (arith, arc, distance_far a.a a.b (omega (arith, arc)))

@@ -36,14 +36,14 @@ overflow_add-back c = let k = (goal.at.overflow_add-back c).After-clockwise-arc 
 pub overflow_sub-result : goal.overflow_sub-result
 overflow_sub-result c =
     let k = (goal.at.overflow_sub-result c).After-clockwise-arc in
-    rw (arc_is k) (omega (arith, back_most (s k).requires (omega (arith, arc_is k, c.if-arc-lt-HALF.false))))
+    rw (arc_is k) (omega (arith, back_most (s k).requires (omega (arith, arc_is k, c.if-forward.false))))
 
-pub returns-then-arc-lt-HALF : goal.returns-then-arc-lt-HALF
-returns-then-arc-lt-HALF c =
-    let k = (goal.at.returns-then-arc-lt-HALF c).After-clockwise-arc in
-    rw (arc_is k) (sym (ahead (s k).requires (omega (arith, arc_is k, c.if-arc-lt-HALF.true))))
+pub returns-then-forward : goal.returns-then-forward
+returns-then-forward c =
+    let k = (goal.at.returns-then-forward c).After-clockwise-arc in
+    rw (arc_is k) (sym (ahead (s k).requires (omega (arith, arc_is k, c.if-forward.true))))
 
-pub returns-else-arc-lt-HALF : goal.returns-else-arc-lt-HALF
-returns-else-arc-lt-HALF c =
-    let k = (goal.at.returns-else-arc-lt-HALF c).After-clockwise-arc in
-    rw (arc_is k) (sym (behind (s k).requires (omega (arith, arc_is k, c.if-arc-lt-HALF.false))))
+pub returns-else-forward : goal.returns-else-forward
+returns-else-forward c =
+    let k = (goal.at.returns-else-forward c).After-clockwise-arc in
+    rw (arc_is k) (sym (behind (s k).requires (omega (arith, arc_is k, c.if-forward.false))))
