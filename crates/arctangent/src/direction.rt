@@ -153,7 +153,9 @@ pub fn angle_of(y: i64, x: i64) -> Angle
 pub fn arctangent(y: i64, x: i64) -> Direction
     ensures { result ≡ arctangent y x }
 {
-    if y == 0 && x == 0 {
+    let no_y = y == 0;
+    let no_x = x == 0;
+    if no_y && no_x {
         return Direction::None;
     }
     Direction::Towards(angle_of(y, x))

@@ -59,11 +59,14 @@ fn days_to_month(y: u64, m: u64) -> u64
     n - 2
 }
 
+// The first year that is counted.
+const FIRST_YEAR: i64 = 1900;
+
 // For any numbers whatever: the day count, or the first refusal that applies, year (1), month (2) or day (3).
 pub fn day_count(year: i64, month: i64, day: i64) -> DayCount
     ensures { OneAnswer count_answer (day_count year month day) result }
 {
-    if year < 1900 {
+    if year < FIRST_YEAR {
         return DayCount::Refused(Refusal::Year);
     }
     if 2100 < year {

@@ -48,9 +48,11 @@ pub fn middle_azimuth(a: i64, b: i64) -> Middle
     let start = a as u64;
     let end = b as u64;
     let arc = clockwise(start, end);
-    if arc == Angle::HALF {
+    let opposite = arc == Angle::HALF;
+    let forward = arc < Angle::HALF;
+    if opposite {
         Middle::Refused(Refusal::Opposite)
-    } else if arc < Angle::HALF {
+    } else if forward {
         Middle::Azimuth(half_way(start, arc))
     } else {
         Middle::Azimuth(half_way(end, Angle::FULL - arc))

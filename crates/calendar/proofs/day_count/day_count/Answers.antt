@@ -12,7 +12,7 @@ use Rattle.arithmetic.proofs.Sizes.{at_least, at_most}
 use Rattle.calendar.proofs.DayCountLaws.{one_count}
 use Rattle.numbers.proofs.Machine.{Mirror, ◌⊖◌, any, cast_up, fits, from_nat, is_le, kept, less, lit, nat_fits, not_le, not_less}
 use Rattle.calendar.proofs.day_count.day_count.Goals as goal
-use Rattle.calendar.proofs.day_count.day_count.Goals.{After-days_to_month, After-month_length, Else-day-lt1, Else-month-gt12, Else-month-lt1, Else-year-gt2100, Else-year-lt1900, Start}
+use Rattle.calendar.proofs.day_count.day_count.Goals.{After-days_to_month, After-month_length, Else-day-lt1, Else-month-gt12, Else-month-lt1, Else-year-gt2100, Else-year-lt-FIRST_YEAR, Start}
 
 -- ---- what the tests tell
 abbrev year : Start → Mirror
@@ -24,8 +24,8 @@ month s = any s.ranges.month
 abbrev day : Start → Mirror
 day s = any s.ranges.day
 
-year_above : (c : Else-year-lt1900) → pos 1900 ≤ℤ c.args.year
-year_above c = not_less (year c.before) (lit (pos 1900)) c.if-year-lt1900.false
+year_above : (c : Else-year-lt-FIRST_YEAR) → pos 1900 ≤ℤ c.args.year
+year_above c = not_less (year c.before) (lit (pos 1900)) c.if-year-lt-FIRST_YEAR.false
 
 year_below : (c : Else-year-gt2100) → c.args.year ≤ℤ pos 2100
 year_below c = not_less (lit (pos 2100)) (year c.before.before) c.if-year-gt2100.false
@@ -105,20 +105,20 @@ module _ (c : After-days_to_month) where
   count = from_nat total_in tt ⊖ lit (pos 730486)
 
 -- ---- the refusals
-pub returns-then-year-lt1900 : goal.returns-then-year-lt1900
+pub returns-then-year-lt-FIRST_YEAR : goal.returns-then-year-lt-FIRST_YEAR
 unfolding day_count
-returns-then-year-lt1900 c = one_count (simp (not_le (less (year (goal.at.returns-then-year-lt1900 c).Start) (lit (pos 1900)) c.if-year-lt1900.true)))
+returns-then-year-lt-FIRST_YEAR c = one_count (simp (not_le (less (year (goal.at.returns-then-year-lt-FIRST_YEAR c).Start) (lit (pos 1900)) c.if-year-lt-FIRST_YEAR.true)))
 
 pub returns-then-year-gt2100 : goal.returns-then-year-gt2100
 unfolding day_count
 returns-then-year-gt2100 c =
-    one_count (simp (is_le (year_above (goal.at.returns-then-year-gt2100 c).Else-year-lt1900), not_le (less (lit (pos 2100)) (year (goal.at.returns-then-year-gt2100 c).Start) c.if-year-gt2100.true)))
+    one_count (simp (is_le (year_above (goal.at.returns-then-year-gt2100 c).Else-year-lt-FIRST_YEAR), not_le (less (lit (pos 2100)) (year (goal.at.returns-then-year-gt2100 c).Start) c.if-year-gt2100.true)))
 
 pub returns-then-month-lt1 : goal.returns-then-month-lt1
 unfolding day_count
 returns-then-month-lt1 c =
     one_count (simp (
-      is_le (year_above (goal.at.returns-then-month-lt1 c).Else-year-lt1900),
+      is_le (year_above (goal.at.returns-then-month-lt1 c).Else-year-lt-FIRST_YEAR),
       is_le (year_below (goal.at.returns-then-month-lt1 c).Else-year-gt2100),
       not_le (less (month (goal.at.returns-then-month-lt1 c).Start) (lit (pos 1)) c.if-month-lt1.true),
     ))
@@ -127,7 +127,7 @@ pub returns-then-month-gt12 : goal.returns-then-month-gt12
 unfolding day_count
 returns-then-month-gt12 c =
     one_count (simp (
-      is_le (year_above (goal.at.returns-then-month-gt12 c).Else-year-lt1900),
+      is_le (year_above (goal.at.returns-then-month-gt12 c).Else-year-lt-FIRST_YEAR),
       is_le (year_below (goal.at.returns-then-month-gt12 c).Else-year-gt2100),
       is_le (month_above (goal.at.returns-then-month-gt12 c).Else-month-lt1),
       not_le (less (lit (pos 12)) (month (goal.at.returns-then-month-gt12 c).Start) c.if-month-gt12.true),
@@ -137,7 +137,7 @@ pub returns-then-day-lt1 : goal.returns-then-day-lt1
 unfolding day_count
 returns-then-day-lt1 c =
     one_count (simp (
-      is_le (year_above (goal.at.returns-then-day-lt1 c).Else-year-lt1900),
+      is_le (year_above (goal.at.returns-then-day-lt1 c).Else-year-lt-FIRST_YEAR),
       is_le (year_below (goal.at.returns-then-day-lt1 c).Else-year-gt2100),
       is_le (month_above (goal.at.returns-then-day-lt1 c).Else-month-lt1),
       is_le (month_below (goal.at.returns-then-day-lt1 c).Else-month-gt12),
@@ -146,7 +146,7 @@ returns-then-day-lt1 c =
 
 -- ---- the parameters as natural numbers
 pub overflow_cast-y : goal.overflow_cast-y
-overflow_cast-y c = cast_up c.ranges.year (year_above (goal.at.overflow_cast-y c).Else-year-lt1900)
+overflow_cast-y c = cast_up c.ranges.year (year_above (goal.at.overflow_cast-y c).Else-year-lt-FIRST_YEAR)
 
 pub overflow_cast-m : goal.overflow_cast-m
 overflow_cast-m c = cast_up c.ranges.month (month_above (goal.at.overflow_cast-m c).Else-month-lt1)

@@ -80,23 +80,23 @@ half_way-requires c = (handed_below (a_mirror (goal.at.half_way-requires c).Star
 pub overflow_sub-arc : goal.overflow_sub-arc
 overflow_sub-arc c = omega (arith, arc_below (goal.at.overflow_sub-arc c).After-clockwise-arc)
 
-pub half_way-requires-else-arc-lt-HALF : goal.half_way-requires-else-arc-lt-HALF
-half_way-requires-else-arc-lt-HALF c = (handed_below (b_mirror (goal.at.half_way-requires-else-arc-lt-HALF c).Start) (b_below (goal.at.half_way-requires-else-arc-lt-HALF c).Else-not-is_reduced-2), omega (arith, c.if-arc-lt-HALF.false))
+pub half_way-requires-else-forward : goal.half_way-requires-else-forward
+half_way-requires-else-forward c = (handed_below (b_mirror (goal.at.half_way-requires-else-forward c).Start) (b_below (goal.at.half_way-requires-else-forward c).Else-not-is_reduced-2), omega (arith, c.if-forward.false))
 
-pub returns-then-arc-eq-HALF : goal.returns-then-arc-eq-HALF
-returns-then-arc-eq-HALF c = one_middle (sym (by_arc (goal.at.returns-then-arc-eq-HALF c).After-clockwise-arc ∙ opposite (x (goal.at.returns-then-arc-eq-HALF c).After-clockwise-arc) (y (goal.at.returns-then-arc-eq-HALF c).After-clockwise-arc) (sym (arc_is (goal.at.returns-then-arc-eq-HALF c).After-clockwise-arc) ∙ c.if-arc-eq-HALF.true)))
+pub returns-then-opposite : goal.returns-then-opposite
+returns-then-opposite c = one_middle (sym (by_arc (goal.at.returns-then-opposite c).After-clockwise-arc ∙ opposite (x (goal.at.returns-then-opposite c).After-clockwise-arc) (y (goal.at.returns-then-opposite c).After-clockwise-arc) (sym (arc_is (goal.at.returns-then-opposite c).After-clockwise-arc) ∙ c.if-opposite.true)))
 
-pub returns-then-arc-lt-HALF : goal.returns-then-arc-lt-HALF
-returns-then-arc-lt-HALF c =
-    let k = (goal.at.returns-then-arc-lt-HALF c).After-clockwise-arc in
+pub returns-then-forward : goal.returns-then-forward
+returns-then-forward c =
+    let k = (goal.at.returns-then-forward c).After-clockwise-arc in
     one_middle ((λ i. record { refusal = 0; azimuth = (c.half_way.ensures ∙ ap₂ half_way (ap nat_abs (a_mirror (s₂ (goal.at.After-clockwise-arc k).Else-not-is_reduced-2)).same) (arc_is k)) i })
-    ∙ sym (by_arc k ∙ ahead (x k) (y k) (subst (λ (n : ℕ). n < half_turn) (arc_is k) c.if-arc-lt-HALF.true)))
+    ∙ sym (by_arc k ∙ ahead (x k) (y k) (subst (λ (n : ℕ). n < half_turn) (arc_is k) c.if-forward.true)))
 
-pub returns-else-arc-lt-HALF : goal.returns-else-arc-lt-HALF
-returns-else-arc-lt-HALF c =
-    let k = (goal.at.returns-else-arc-lt-HALF c).After-clockwise-arc in
-    one_middle ((λ i. record { refusal = 0; azimuth = (c.half_way-else-arc-lt-HALF.ensures ∙ ap₂ (λ (b arc : ℕ). half_way b (full_turn - arc)) (ap nat_abs (b_mirror (s₂ (goal.at.After-clockwise-arc k).Else-not-is_reduced-2)).same) (arc_is k)) i })
-    ∙ sym (by_arc k ∙ behind (x k) (y k) (subst (λ (n : ℕ). half_turn < n) (arc_is k) (above k.clockwise-arc.result c.if-arc-lt-HALF.false c.if-arc-eq-HALF.false))))
+pub returns-else-forward : goal.returns-else-forward
+returns-else-forward c =
+    let k = (goal.at.returns-else-forward c).After-clockwise-arc in
+    one_middle ((λ i. record { refusal = 0; azimuth = (c.half_way-else-forward.ensures ∙ ap₂ (λ (b arc : ℕ). half_way b (full_turn - arc)) (ap nat_abs (b_mirror (s₂ (goal.at.After-clockwise-arc k).Else-not-is_reduced-2)).same) (arc_is k)) i })
+    ∙ sym (by_arc k ∙ behind (x k) (y k) (subst (λ (n : ℕ). half_turn < n) (arc_is k) (above k.clockwise-arc.result c.if-forward.false c.if-opposite.false))))
   where
     above : (n : ℕ) → half_turn ≤ n → (n ≡ half_turn → ⊥) → half_turn < n
     above n h f = omega arith
