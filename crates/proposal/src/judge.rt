@@ -140,7 +140,8 @@ pub fn judge(
     match verdict_before(date, point, minutes, azimuths) {
         Verdict::Passed => {
             let out = work(&table(), date, body, point, tolerance, minutes, azimuths);
-            if out < MINUTES {
+            let is_found = out < MINUTES;
+            if is_found {
                 Judgement::Out(out as u32)
             } else {
                 Judgement::Accepted

@@ -44,24 +44,24 @@ work-out-requires c =
       azimuths_value = formed_passes a.minutes.now a.azimuths.now (parts told).1;
     }
 
-pub returns-then-out-lt-MINUTES : goal.returns-then-out-lt-MINUTES
-returns-then-out-lt-MINUTES c =
-    let told = (goal.at.returns-then-out-lt-MINUTES c).In-Passed in
+pub returns-then-is_found : goal.returns-then-is_found
+returns-then-is_found c =
+    let told = (goal.at.returns-then-is_found c).In-Passed in
     let a = (s (v told)).args in
     let is = c.work-out.ensures in record {
       one_answer = one_judgement
           ((λ i. record { refusal = 31; minute = is i })
-          ∙ sym (out_is a.date a.body a.point a.tolerance a.minutes.now a.azimuths.now (passed told) (omega (arith, is, c.if-out-lt-MINUTES.true))));
+          ∙ sym (out_is a.date a.body a.point a.tolerance a.minutes.now a.azimuths.now (passed told) (omega (arith, is, c.if-is_found.true))));
       day_near = every_day_near a.date a.point;
     }
 
-pub returns-else-out-lt-MINUTES : goal.returns-else-out-lt-MINUTES
-returns-else-out-lt-MINUTES c =
-    let told = (goal.at.returns-else-out-lt-MINUTES c).In-Passed in
+pub returns-else-is_found : goal.returns-else-is_found
+returns-else-is_found c =
+    let told = (goal.at.returns-else-is_found c).In-Passed in
     let a = (s (v told)).args in
     let most = out_most a.tolerance (azimuth_on a.date a.body a.point) a.minutes.now a.azimuths.now in record {
       one_answer = one_judgement
-          (sym (accepted_is a.date a.body a.point a.tolerance a.minutes.now a.azimuths.now (passed told) (omega (arith, c.work-out.ensures, c.if-out-lt-MINUTES.false, most))));
+          (sym (accepted_is a.date a.body a.point a.tolerance a.minutes.now a.azimuths.now (passed told) (omega (arith, c.work-out.ensures, c.if-is_found.false, most))));
       day_near = every_day_near a.date a.point;
     }
 
