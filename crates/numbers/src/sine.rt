@@ -1,11 +1,10 @@
 // Sine and cosine, times 10⁹, of any angle in 10⁻⁸ degree.
 ghost use Rattle.std.specs.Prelude.{◌≡◌, ◌+◌, ◌%◌, ◌≤◌, ◌<◌};
 ghost use Rattle.number_rules.specs.Angle.{full_turn, half_turn, quarter_turn};
-ghost use Rattle.number_rules.specs.SineTable.{sines};
 ghost use Rattle.number_rules.specs.Sine.{quarter_sine, half_fold, fold, negated_from_half, sine_at, sine, cosine};
 
 use super::angle::Angle;
-use super::sine_table::table;
+use super::sine_table::entry_at;
 
 // The sine and the cosine of one angle.
 #[derive(Clone, Copy)]
@@ -14,15 +13,9 @@ pub struct SineCosine {
     pub cosine: i64,
 }
 
-fn wide(x: u32) -> u64
-    ensures { result ≡ x }
-{
-    x as u64
-}
-
 // From 0 to 90 degrees: the entry at quarter k, carried on by the rest.
-fn quarter_sine(table: &[u32; 361], y: u64) -> u64
-    requires { (table.now ≡ sines) × (y ≤ quarter_turn) }
+fn quarter_sine(y: u64) -> u64
+    requires { y ≤ quarter_turn }
     ensures { result ≡ quarter_sine y }
 {
     let k = (y / 25_000_000) as usize;
@@ -30,7 +23,7 @@ fn quarter_sine(table: &[u32; 361], y: u64) -> u64
     let q = r * r / 1_000_000_000;
     let cosine = 1_000_000_000 - r * r / 2_000_000_000;
     let sine = r - q * r / 6_000_000_000;
-    (wide(table[k]) * cosine + wide(table[360 - k]) * sine) / 1_000_000_000
+    (entry_at(k) * cosine + entry_at(360 - k) * sine) / 1_000_000_000
 }
 
 // Above 90 degrees take 180 minus it.
@@ -70,11 +63,11 @@ fn negated_from_half(a: u64, s: u64) -> i64
 }
 
 // The sine of a reduced angle.
-fn sine_at(table: &[u32; 361], a: u64) -> i64
-    requires { (table.now ≡ sines) × (a < full_turn) }
+fn sine_at(a: u64) -> i64
+    requires { a < full_turn }
     ensures { result ≡ sine_at a }
 {
-    negated_from_half(a, quarter_sine(table, folded(a)))
+    negated_from_half(a, quarter_sine(folded(a)))
 }
 
 // A reduced angle a quarter turn on.
@@ -89,43 +82,26 @@ fn quarter_on(a: u64) -> u64
     }
 }
 
-// Sine over a lent table.
-pub fn sine_in(table: &[u32; 361], x: i64) -> i64
-    requires { table.now ≡ sines }
-    ensures { result ≡ sine x }
-{
-    let a = Angle::new(x).units;
-    sine_at(table, a)
-}
-
-// Cosine over a lent table.
-pub fn cosine_in(table: &[u32; 361], x: i64) -> i64
-    requires { table.now ≡ sines }
-    ensures { result ≡ cosine x }
-{
-    let a = Angle::new(x).units;
-    sine_at(table, quarter_on(a))
-}
-
-// Both over a lent table.
-pub fn sine_cosine_in(table: &[u32; 361], x: i64) -> SineCosine
-    requires { table.now ≡ sines }
-    ensures { (result.sine ≡ sine x) × (result.cosine ≡ cosine x) }
-{
-    let a = Angle::new(x).units;
-    let sine = sine_at(table, a);
-    let cosine = sine_at(table, quarter_on(a));
-    SineCosine { sine, cosine }
-}
-
 pub fn sine(x: i64) -> i64
     ensures { result ≡ sine x }
 {
-    sine_in(&table(), x)
+    let a = Angle::new(x).units;
+    sine_at(a)
 }
 
 pub fn cosine(x: i64) -> i64
     ensures { result ≡ cosine x }
 {
-    cosine_in(&table(), x)
+    let a = Angle::new(x).units;
+    sine_at(quarter_on(a))
+}
+
+// Both of one angle, which is reduced once.
+pub fn sine_cosine(x: i64) -> SineCosine
+    ensures { (result.sine ≡ sine x) × (result.cosine ≡ cosine x) }
+{
+    let a = Angle::new(x).units;
+    let sine = sine_at(a);
+    let cosine = sine_at(quarter_on(a));
+    SineCosine { sine, cosine }
 }

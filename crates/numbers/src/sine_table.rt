@@ -1,8 +1,8 @@
 // The sine table: at each quarter degree from 0 to 90 the sine times 10⁹, to the nearest whole.
-ghost use Rattle.std.specs.Prelude.{◌≡◌};
-ghost use Rattle.number_rules.specs.SineTable.{sines};
+ghost use Rattle.std.specs.Prelude.{◌≡◌, ◌≤◌};
+ghost use Rattle.number_rules.specs.Sine.{entry};
 
-const SINES: [u32; 361] = [
+static SINES: [u32; 361] = [
     0, 4363309, 8726535, 13089596, 17452406, 21814885, 26176948, 30538513, 34899497, 39259816,
     43619387, 47978129, 52335956, 56692788, 61048540, 65403129, 69756474, 74108490, 78459096,
     82808208, 87155743, 91501619, 95845753, 100188062, 104528463, 108866875, 113203214, 117537397,
@@ -50,9 +50,10 @@ const SINES: [u32; 361] = [
     999847695, 999914328, 999961923, 999990481, 1000000000,
 ];
 
-// A constant array is copied at each use, so a loop lends one copy to every call.
-pub fn table() -> [u32; 361]
-    ensures { result ≡ sines }
+// The entry at quarter k.
+pub fn entry_at(k: usize) -> u64
+    requires { k ≤ 360 }
+    ensures { result ≡ entry k }
 {
-    SINES
+    u64::from(SINES[k])
 }

@@ -14,14 +14,14 @@ module _ (c : After-folded) where
   a = c.args.a
 
   folded_most : c.folded.result ≤ quarter_turn
-  folded_most = subst⁻¹ (λ (n : ℕ). n ≤ quarter_turn) c.folded.ensures (fold_most a c.requires.1)
+  folded_most = subst⁻¹ (λ (n : ℕ). n ≤ quarter_turn) c.folded.ensures (fold_most a c.requires)
 
 module _ (c : After-quarter_sine) where
   size_is : c.quarter_sine.result ≡ quarter_sine (fold (a c.before))
   size_is = c.quarter_sine.ensures ∙ ap quarter_sine c.folded.ensures
 
 pub quarter_sine-requires : goal.quarter_sine-requires
-quarter_sine-requires c = (c.requires.0, folded_most (goal.at.quarter_sine-requires c).After-folded)
+quarter_sine-requires c = folded_most (goal.at.quarter_sine-requires c).After-folded
 
 pub negated_from_half-requires : goal.negated_from_half-requires
 negated_from_half-requires c =

@@ -1,4 +1,4 @@
--- `numbers::sine::sine_cosine_in` meets its contract.
+-- `numbers::sine::sine_cosine` meets its contract.
 use mathlib.Core.Path.{◌∙◌, ap, sym}
 use Prim.Native.Nat.{◌%◌, ◌+◌, ℕ}
 use native.Mathlib.Omega.{arith}
@@ -7,16 +7,16 @@ use Rattle.number_rules.specs.Sine.{sine, sine_at}
 use Rattle.numbers.proofs.Machine.{passed}
 use Rattle.number_rules.proofs.SineLaws.{cosine_is}
 use Rattle.numbers.proofs.AngleLaws.{new_below, new_is}
-use Rattle.numbers.proofs.sine.sine_cosine_in.Goals as goal
+use Rattle.numbers.proofs.sine.sine_cosine.Goals as goal
 
 pub sine_at-sine-requires : goal.sine_at-sine-requires
-sine_at-sine-requires c = (c.requires, new_below c.ranges.x c.new-a.ensures)
+sine_at-sine-requires c = new_below c.ranges.x c.new-a.ensures
 
 pub quarter_on-requires : goal.quarter_on-requires
 quarter_on-requires c = new_below c.ranges.x c.new-a.ensures
 
 pub sine_at-cosine-requires : goal.sine_at-cosine-requires
-sine_at-cosine-requires c = (c.requires, omega (arith, c.quarter_on.ensures))
+sine_at-cosine-requires c = omega (arith, c.quarter_on.ensures)
 
 pub returns : goal.returns
 unfolding sine
