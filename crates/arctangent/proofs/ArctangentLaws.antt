@@ -19,9 +19,8 @@ use Rattle.arithmetic.proofs.Sizes.{abs_neg, add_bound, mul_bound, sub_bound}
 use Rattle.arithmetic.proofs.Solver.{◌:*◌, ◌:+◌, ◌:-◌, con, k0, k1, x0, x1}
 use Rattle.number_rules.specs.Angle.{full_turn, half_turn}
 use Rattle.arctangent.specs.Arctangent.{EveryDirectionReduced, NoneAtZeros, angle_of, arctangent, start, step, steps}
-use Rattle.arctangent.specs.Direction.{DirectionsTold, Reduced, angle_or, is_there, mark}
-use Rattle.arctangent.specs.declared.direction.Direction.{Direction}
-use Rattle.arctangent.specs.declared.direction.Direction.TheVariants.{None, Towards}
+use Rattle.arctangent.specs.Direction.{Direction, DirectionsTold, Reduced, angle_or, is_there, mark}
+use Rattle.std.specs.Prelude.{None, Some, is_some}
 use Rattle.number_rules.specs.ArctangentTable.{turn_by}
 use Rattle.numbers.specs.Whole.{by_sign, sign}
 use Rattle.arctangent.specs.declared.direction.Turning.{Turning}
@@ -169,7 +168,7 @@ pub both_zero : {y x : ℤ} → y ≡ pos 0 → x ≡ pos 0 → arctangent y x �
 unfolding arctangent
 both_zero e f = rw (e, f) refl
 
-pub not_both : (y x : ℤ) → 0 < nat_abs y + nat_abs x → arctangent y x ≡ Towards (record { units = angle_of y x })
+pub not_both : (y x : ℤ) → 0 < nat_abs y + nat_abs x → arctangent y x ≡ Some (record { units = angle_of y x })
 unfolding arctangent
 not_both y x h = rw (ne_eqb (nat_abs y + nat_abs x) 0 (omega arith)) refl
 
@@ -177,7 +176,7 @@ pub arctangent_reduced : EveryDirectionReduced
 unfolding arctangent
 arctangent_reduced y x = go (eqb (nat_abs y + nat_abs x) 0)
   where
-    go : (b : Bool) → Reduced (cond b None (Towards (record { units = angle_of y x })))
+    go : (b : Bool) → Reduced (cond b None (Some (record { units = angle_of y x })))
     go true = tt
     go false = angle_below y x
 
@@ -202,23 +201,28 @@ module _ {r : Direction} (y x : Mirror) (e : r ≡ arctangent y.machine x.machin
 
 -- ---- its angle, with a number below a full turn for none, is such a number too
 pub angle_most : (none : ℤ) (d : Direction) → nat_abs none ≤ full_turn → Reduced d → nat_abs (angle_or none d) ≤ full_turn
-angle_most none (Towards angle) h r = le_of_lt r
+angle_most none (Some angle) h r = le_of_lt r
 angle_most none None h r = h
 
 pub angle_natural : (none : ℕ) (d : Direction) → angle_or (pos none) d ≡ pos (nat_abs (angle_or (pos none) d))
-angle_natural none (Towards angle) = refl
+angle_natural none (Some angle) = refl
 angle_natural none None = refl
+
+-- the library's test of it
+pub some_there : (d : Direction) → is_some d ≡ is_there d
+some_there (Some angle) = refl
+some_there None = refl
 
 -- one direction and no other is there and has the angle
 pub direction_tells : DirectionsTold
-direction_tells (Towards a) (Towards b) there same = ap (λ (z : ℤ). Towards (record { units = nat_abs z })) same
-direction_tells (Towards a) None there same = absurd (subst T there tt)
-direction_tells None (Towards b) there same = absurd (subst⁻¹ T there tt)
+direction_tells (Some a) (Some b) there same = ap (λ (z : ℤ). Some (record { units = nat_abs z })) same
+direction_tells (Some a) None there same = absurd (subst T there tt)
+direction_tells None (Some b) there same = absurd (subst⁻¹ T there tt)
 direction_tells None None there same = refl
 
 -- the mark is no reduced angle
 pub mark_tells : (d : Direction) → Reduced d → angle_or mark d ≡ mark → d ≡ None
-mark_tells (Towards angle) r same = absurd (omega (arith, r, ap nat_abs same))
+mark_tells (Some angle) r same = absurd (omega (arith, r, ap nat_abs same))
 mark_tells None r same = refl
 
 -- ---- a small number: at most 2⁴⁰ on either side of zero

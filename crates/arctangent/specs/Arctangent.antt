@@ -1,9 +1,7 @@
 -- The arctangent of (y, x) (01, "Arctangent", as 02's Item 5 mends it): a reduced angle, or no direction.
-use Rattle.std.specs.Prelude.{cond, ◌↔◌, ◌≡◌, ℕ, zero, suc, ◌+◌, ◌^◌, eqb, ℤ, pos, negsuc, neg_ℤ, nat_abs, ◌+ℤ◌, ◌-ℤ◌, ◌*ℤ◌}
+use Rattle.std.specs.Prelude.{Some, None, cond, ◌↔◌, ◌≡◌, ℕ, zero, suc, ◌+◌, ◌^◌, eqb, ℤ, pos, negsuc, neg_ℤ, nat_abs, ◌+ℤ◌, ◌-ℤ◌, ◌*ℤ◌}
 use Rattle.arithmetic.specs.Floor.{⌊◌÷◌⌋}
-use Rattle.arctangent.specs.Direction.{Reduced}
-use Rattle.arctangent.specs.declared.direction.Direction.{Direction}
-use Rattle.arctangent.specs.declared.direction.Direction.TheVariants.{None, Towards}
+use Rattle.arctangent.specs.Direction.{Direction, Reduced}
 use Rattle.arctangent.specs.declared.direction.Turning.{Turning}
 use Rattle.numbers.specs.Whole.{by_sign}
 use Rattle.number_rules.specs.Angle.{half_turn, reduced}
@@ -33,7 +31,7 @@ angle_of y x = reduced (steps 30 (start y x)).angle
 
 -- both zero: no direction
 unfoldable pub arctangent : ℤ → ℤ → Direction
-arctangent y x = cond (eqb (nat_abs y + nat_abs x) 0) None (Towards (record { units = angle_of y x }))
+arctangent y x = cond (eqb (nat_abs y + nat_abs x) 0) None (Some (record { units = angle_of y x }))
 
 -- THE CLAIMS, for any two numbers: no direction exactly when both are zero, and every angle is reduced
 abbrev pub NoneAtZeros : Type 0

@@ -2,7 +2,7 @@
 ghost use Rattle.std.specs.Prelude.{◌≡◌, ◌+◌, ◌≤◌, ◌<◌, ◌^◌, map, leb, pos, nat_abs};
 ghost use Rattle.number_rules.specs.ArctangentTable.{arctangents};
 ghost use Rattle.arctangent.specs.Arctangent.{step, steps, start, angle_of, arctangent};
-ghost use Rattle.arctangent.specs.Direction.{Reduced, angle_or, is_there};
+ghost use Rattle.arctangent.specs.Direction.{Reduced, angle_or};
 
 use super::wide_angle::wide_angle;
 use numbers::angle::Angle;
@@ -41,13 +41,6 @@ pub const ARCTANGENTS: [i64; 30] = [
     21,
     11,
 ];
-
-// Where a pair points to from the x axis towards the y axis: a reduced angle, or nowhere.
-#[derive(Clone, Copy)]
-pub enum Direction {
-    Towards(Angle),
-    None,
-}
 
 // No direction, where one number has to say so.
 pub const MARK: i64 = 9_223_372_036_854_775_807;
@@ -149,34 +142,25 @@ pub fn angle_of(y: i64, x: i64) -> Angle
     wide_angle(y, x)
 }
 
-// The direction of any pair.
-pub fn arctangent(y: i64, x: i64) -> Direction
+// Where a pair points to from the x axis towards the y axis: a reduced angle, or nowhere.
+pub fn arctangent(y: i64, x: i64) -> Option<Angle>
     ensures { result ≡ arctangent y x }
 {
     let no_y = y == 0;
     let no_x = x == 0;
     if no_y && no_x {
-        return Direction::None;
+        return None;
     }
-    Direction::Towards(angle_of(y, x))
+    Some(angle_of(y, x))
 }
 
 // The angle of a direction, or a number for none.
-pub fn angle_or(none: i64, direction: Direction) -> i64
+pub fn angle_or(none: i64, direction: Option<Angle>) -> i64
     requires { Reduced direction }
     ensures { result ≡ angle_or none direction }
 {
     match direction {
-        Direction::Towards(angle) => angle.units as i64,
-        Direction::None => none,
-    }
-}
-
-pub fn is_there(direction: Direction) -> bool
-    ensures { result ≡ is_there direction }
-{
-    match direction {
-        Direction::Towards(_) => true,
-        Direction::None => false,
+        Some(angle) => angle.units as i64,
+        None => none,
     }
 }

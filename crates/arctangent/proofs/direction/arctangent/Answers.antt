@@ -4,7 +4,7 @@ use Prim.Native.Nat.{◌+◌, ◌<◌}
 use native.Mathlib.Omega.{arith}
 use lib.IntN.{nat_abs, ℤ}
 use Rattle.arctangent.specs.Arctangent.{angle_of}
-use Rattle.arctangent.specs.declared.direction.Direction.TheVariants.{Towards}
+use Rattle.std.specs.Prelude.{Some}
 use Rattle.arctangent.proofs.ArctangentLaws.{both_zero, not_both}
 use Rattle.numbers.proofs.Machine.{any, is_zero, not_zero}
 use Rattle.arctangent.proofs.direction.arctangent.Goals as goal
@@ -28,5 +28,5 @@ angle_of-requires c =
 
 pub returns : goal.returns
 returns c =
-    (λ i. Towards (record { units = (c.angle_of.ensures ∙ (λ j. angle_of ((any c.ranges.y).same j) ((any c.ranges.x).same j))) i }))
+    (λ i. Some (record { units = (c.angle_of.ensures ∙ (λ j. angle_of ((any c.ranges.y).same j) ((any c.ranges.x).same j))) i }))
     ∙ sym (not_both c.args.y c.args.x (directed (goal.at.returns c).Joined-else-no_y))
