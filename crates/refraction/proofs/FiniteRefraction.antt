@@ -20,7 +20,7 @@ use Rattle.numbers.specs.SineCosine.{sine_cosine}
 use Rattle.refraction.specs.Refraction.{FiniteWhereAccepted, IsRefracted, formula, measured_refraction, raised, refraction_in}
 use Rattle.calendar.specs.Refusal.{◌unless◌, first}
 use Rattle.refraction.specs.declared.air.Air.{Air}
-use Rattle.refraction.specs.declared.air.Air.TheVariants.{Measured, None}
+use Rattle.std.specs.Prelude.{None, Option, Some}
 use Rattle.refraction.proofs.DoubleLaws.{AtLeast1, AtMost, bounded, bounded_finite, product_least, product_most, quotient_most, rounds_least, rounds_most, whole_least, whole_most, within_most}
 use Rattle.refraction.proofs.RefractionLaws.{of_refraction, raised_sine}
 use Rattle.calendar.proofs.RefusalLaws.{none, passes}
@@ -66,13 +66,13 @@ unfolding measured_refraction formula
 measured_finite P T pressure temperature refracted =
     bounded_finite (product_most (product_most (pressure_most P pressure) (warmth_most T temperature) (lit≤ tt)) (cotangent_most refracted) (lit≤ tt))
 
-air_finite : (air : Air) {e : ℤ} → first (air_refusals air) ≡ 0 → IsRefracted e → IsFinite (refraction_in air e)
+air_finite : (air : Option Air) {e : ℤ} → first (air_refusals air) ≡ 0 → IsRefracted e → IsFinite (refraction_in air e)
 unfolding refraction_in air_refusals Ieee.le Ieee.of_int
 air_finite None accepted refracted = tt
-air_finite (Measured P T) accepted refracted =
-    let pressure = none (10 unless pressure_passes P) (11 unless temperature_passes T ∷ []) accepted in
-    let temperature = none (11 unless temperature_passes T) [] pressure.1 in
-    measured_finite P T (passes 9 _ pressure.0) (passes 10 _ temperature.0) refracted
+air_finite (Some air) accepted refracted =
+    let pressure = none (10 unless pressure_passes air.pressure) (11 unless temperature_passes air.temperature ∷ []) accepted in
+    let temperature = none (11 unless temperature_passes air.temperature) [] pressure.1 in
+    measured_finite air.pressure air.temperature (passes 9 _ pressure.0) (passes 10 _ temperature.0) refracted
 
 pub finite_where_accepted : FiniteWhereAccepted
 unfolding Ieee.of_int

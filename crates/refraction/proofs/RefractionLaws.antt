@@ -21,6 +21,7 @@ use Rattle.number_rules.proofs.SineLaws.{fold_low, half_high, half_low, reduced_
 use Rattle.number_rules.proofs.SineSteps.{radians_most, square_most}
 use Rattle.refraction.specs.Double.{zero_degrees}
 use Rattle.refraction.specs.Refraction.{IsRefracted, lowest_refracted, raised, refraction, refraction_in}
+use Rattle.std.specs.Prelude.{Option}
 use Rattle.refraction.specs.declared.air.Air.{Air}
 
 -- e + 511,000,000 is above zero
@@ -109,7 +110,7 @@ raised_sine h =
     (quarter_sine (fold q), ap sine range.1 ∙ sine_is q range.2 below, sine_above q range.2 below)
 
 -- ---- a law of every refraction: it holds of zero, and where the formula is worked
-pub of_refraction : (Law : Float → Type 0) (air : Air) (e : ℤ) → nat_abs e ≤ quarter_turn → Law zero_degrees → (IsRefracted e → Law (refraction_in air e))
+pub of_refraction : (Law : Float → Type 0) (air : Option Air) (e : ℤ) → nat_abs e ≤ quarter_turn → Law zero_degrees → (IsRefracted e → Law (refraction_in air e))
     → Law (refraction air e)
 unfolding refraction
 of_refraction Law air e size at_zero worked = go (lt_z e lowest_refracted) refl

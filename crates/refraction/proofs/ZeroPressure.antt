@@ -7,7 +7,7 @@ use lib.Ieee.{Float}
 use Rattle.refraction.specs.Air.{temperature_passes}
 use Rattle.refraction.specs.Double.{IsZero}
 use Rattle.refraction.specs.Refraction.{IsRefracted, ZeroAtZeroPressure, formula, measured_refraction, refraction_in}
-use Rattle.refraction.specs.declared.air.Air.TheVariants.{Measured}
+use Rattle.std.specs.Prelude.{Some}
 use Rattle.refraction.proofs.DoubleLaws.{bounded_finite, zero_over, zero_times}
 use Rattle.refraction.proofs.FiniteRefraction.{cotangent_most, warmth_most}
 use Rattle.refraction.proofs.RefractionLaws.{of_refraction}
@@ -19,4 +19,4 @@ measured_zero P T no_pressure passes refracted =
 
 pub zero_at_zero_pressure : ZeroAtZeroPressure
 unfolding refraction_in Ieee.eq Ieee.of_int
-zero_at_zero_pressure P T e no_pressure passes size = of_refraction IsZero (Measured P T) e size refl (measured_zero P T no_pressure passes)
+zero_at_zero_pressure P T e no_pressure passes size = of_refraction IsZero (Some (record { pressure = P; temperature = T })) e size refl (measured_zero P T no_pressure passes)

@@ -1,10 +1,9 @@
 -- The air of a request (01, "A request and its numbered refusals", as 02's Item 9 mends it): none, or measured with a pressure and a temperature.
-use Rattle.std.specs.Prelude.{Bool, ◌&&◌, List, [], ◌∷◌, ℕ, negsuc, pos, Float}
+use Rattle.std.specs.Prelude.{Option, None, Some, Bool, ◌&&◌, List, [], ◌∷◌, ℕ, negsuc, pos, Float}
 use Rattle.std.specs.Float.Ieee as Ieee
 use Rattle.refraction.specs.Double.{double}
 use Rattle.calendar.specs.Refusal.{◌unless◌}
 use Rattle.refraction.specs.declared.air.Air.{Air}
-use Rattle.refraction.specs.declared.air.Air.TheVariants.{Measured, None}
 
 -- lo to hi, both included; a float that is not a number is between nothing
 abbrev pub between_doubles : Float → Float → Float → Bool
@@ -18,6 +17,7 @@ pressure_passes P = between_doubles (double (pos 0)) P (double (pos 1200))
 abbrev pub temperature_passes : Float → Bool
 temperature_passes T = between_doubles (double (negsuc 79)) T (double (pos 80))
 
-unfoldable pub air_refusals : Air → List ℕ
+-- checks 10 and 11; no air passes both
+unfoldable pub air_refusals : Option Air → List ℕ
 air_refusals None = []
-air_refusals (Measured P T) = 10 unless pressure_passes P ∷ 11 unless temperature_passes T ∷ []
+air_refusals (Some air) = 10 unless pressure_passes air.pressure ∷ 11 unless temperature_passes air.temperature ∷ []

@@ -1,5 +1,5 @@
 -- Refraction (01, "Refraction", as 02's Item 3 mends it), in degrees.
-use Rattle.std.specs.Prelude.{cond, true, ◌≡◌, ◌≤◌, ◌+ℤ◌, nat_abs, neg_ℤ, pos, ℤ, Float, ◌≤ℤ◌}
+use Rattle.std.specs.Prelude.{Option, None, Some, cond, true, ◌≡◌, ◌≤◌, ◌+ℤ◌, nat_abs, neg_ℤ, pos, ℤ, Float, ◌≤ℤ◌}
 use Rattle.std.specs.Int.Signed.{lt_z}
 use Rattle.arithmetic.specs.Floor.{⌊◌÷◌⌋}
 use Rattle.number_rules.specs.Angle.{quarter_turn}
@@ -9,7 +9,6 @@ use Rattle.refraction.specs.Double.{IsFinite, IsZero, ◌+d◌, ◌*d◌, ◌/d�
 use Rattle.numbers.specs.SineCosine.{sine_cosine}
 use Rattle.calendar.specs.Refusal.{first}
 use Rattle.refraction.specs.declared.air.Air.{Air}
-use Rattle.refraction.specs.declared.air.Air.TheVariants.{Measured, None}
 
 -- worked at and above -83,337,000 units, for both bodies, and zero below (02, Item 3; 01 had 0)
 abbrev pub lowest_refracted : ℤ
@@ -34,19 +33,19 @@ unfoldable pub measured_refraction : Float → Float → ℤ → Float
 measured_refraction P T e = formula P T (sine_cosine (raised e))
 
 -- zero if there is no air
-unfoldable pub refraction_in : Air → ℤ → Float
+unfoldable pub refraction_in : Option Air → ℤ → Float
 refraction_in None e = zero_degrees
-refraction_in (Measured P T) e = measured_refraction P T e
+refraction_in (Some air) e = measured_refraction air.pressure air.temperature e
 
-unfoldable pub refraction : Air → ℤ → Float
+unfoldable pub refraction : Option Air → ℤ → Float
 refraction air e = cond (lt_z e lowest_refracted) zero_degrees (refraction_in air e)
 
 -- at measured pressure 0 the refraction equals zero: where P is a zero of either sign and check 11 lets T pass
 abbrev pub ZeroAtZeroPressure : Type 0
 ZeroAtZeroPressure =
     (P T : Float) (e : ℤ) → IsZero P → temperature_passes T ≡ true → nat_abs e ≤ quarter_turn
-    → IsZero (refraction (Measured P T) e)
+    → IsZero (refraction (Some (record { pressure = P; temperature = T })) e)
 
 -- an accepted refraction is a finite number: in every air that checks 10 and 11 let pass, at every elevation
 abbrev pub FiniteWhereAccepted : Type 0
-FiniteWhereAccepted = (air : Air) (e : ℤ) → first (air_refusals air) ≡ 0 → nat_abs e ≤ quarter_turn → IsFinite (refraction air e)
+FiniteWhereAccepted = (air : Option Air) (e : ℤ) → first (air_refusals air) ≡ 0 → nat_abs e ≤ quarter_turn → IsFinite (refraction air e)

@@ -5,11 +5,11 @@ ghost use Rattle.refraction.specs.Air.{between_doubles, air_refusals};
 
 use calendar::refusal::{Refusal, Verdict, or_else, unless};
 
-// Measured with a pressure in mbar and a temperature in °C.
+// Measured air: its pressure in mbar and its temperature in °C. A request without has None.
 #[derive(Clone, Copy)]
-pub enum Air {
-    None,
-    Measured(f64, f64),
+pub struct Air {
+    pub pressure: f64,
+    pub temperature: f64,
 }
 
 // A NaN is between nothing.
@@ -20,14 +20,17 @@ fn is_between(lo: f64, x: f64, hi: f64) -> bool
 }
 
 // The first of checks 10 and 11 that refuses.
-pub fn air_verdict(air: Air) -> Verdict
+pub fn air_verdict(air: Option<Air>) -> Verdict
     ensures { verdict_number result ≡ first (air_refusals air) }
 {
     match air {
-        Air::None => Verdict::Passed,
-        Air::Measured(pressure, temperature) => {
-            let by_pressure = unless(Refusal::Pressure, is_between(0.0, pressure, 1200.0));
-            let by_temperature = unless(Refusal::Temperature, is_between(-80.0, temperature, 80.0));
+        None => Verdict::Passed,
+        Some(air) => {
+            let by_pressure = unless(Refusal::Pressure, is_between(0.0, air.pressure, 1200.0));
+            let by_temperature = unless(
+                Refusal::Temperature,
+                is_between(-80.0, air.temperature, 80.0),
+            );
             or_else(by_pressure, by_temperature)
         }
     }

@@ -7,12 +7,12 @@ use Rattle.numbers.proofs.SineCosineLaws.{gave_one_angle, gave_sine_cosine}
 use Rattle.refraction.proofs.formula.measured_refraction.Goals as goal
 
 pub formula-requires : goal.formula-requires
-formula-requires c = gave_one_angle _ c.sine_cosine_in.ensures
+formula-requires c = gave_one_angle _ c.sine_cosine.ensures
 
 pub returns : goal.returns
 unfolding measured_refraction
 returns c =
     c.formula.ensures
-    ∙ ap (formula c.args.p c.args.t)
-    (gave_sine_cosine _ c.sine_cosine_in.ensures
-    ∙ ap sine_cosine (passed c.raised.type_inv (c.raised.ensures ∙ ap raised (arg c.ranges.e c.requires.1.size).same)))
+    ∙ ap (formula c.args.air.pressure c.args.air.temperature)
+    (gave_sine_cosine _ c.sine_cosine.ensures
+    ∙ ap sine_cosine (passed c.raised.type_inv (c.raised.ensures ∙ ap raised (arg c.ranges.e c.requires.size).same)))

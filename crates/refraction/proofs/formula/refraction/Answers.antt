@@ -10,7 +10,7 @@ use Rattle.refraction.proofs.formula.refraction.Goals as goal
 use Rattle.refraction.proofs.formula.refraction.Goals.{Else-elevation-lt-LOWEST_REFRACTED, Start}
 
 abbrev e : Start → Mirror
-e a = arg a.ranges.elevation a.requires.1
+e a = arg a.ranges.elevation a.requires
 
 -- at or above the lowest refracted
 module _ (c : Else-elevation-lt-LOWEST_REFRACTED) where
@@ -20,7 +20,7 @@ module _ (c : Else-elevation-lt-LOWEST_REFRACTED) where
   refracted : IsRefracted (e c.before).machine
   refracted =
       subst⁻¹ IsRefracted (e c.before).same
-      (record { not_below = not_less (e c.before) (lit lowest_refracted) c.if-elevation-lt-LOWEST_REFRACTED.false; size = c.requires.1 })
+      (record { not_below = not_less (e c.before) (lit lowest_refracted) c.if-elevation-lt-LOWEST_REFRACTED.false; size = c.requires })
 
 pub returns-then-elevation-lt-LOWEST_REFRACTED : goal.returns-then-elevation-lt-LOWEST_REFRACTED
 unfolding refraction Ieee.of_bits Ieee.of_int
@@ -30,15 +30,15 @@ pub enum_told-1 : goal.enum_told-1
 enum_told-1 c = search rules
 
 pub measured_refraction-requires : goal.measured_refraction-requires
-measured_refraction-requires c = (c.requires.0, refracted (goal.at.measured_refraction-requires c).Else-elevation-lt-LOWEST_REFRACTED)
+measured_refraction-requires c = refracted (goal.at.measured_refraction-requires c).Else-elevation-lt-LOWEST_REFRACTED
 
 pub returns-in-None : goal.returns-in-None
 unfolding refraction refraction_in Ieee.of_bits Ieee.of_int
 returns-in-None c = rw (seen (goal.at.returns-in-None c).Else-elevation-lt-LOWEST_REFRACTED, c.in-None.is)
 
-pub returns-in-Measured : goal.returns-in-Measured
+pub returns-in-Some : goal.returns-in-Some
 unfolding refraction refraction_in
-returns-in-Measured c =
-    let k = (goal.at.returns-in-Measured c).Else-elevation-lt-LOWEST_REFRACTED in
-    rw (seen k, c.in-Measured.is)
+returns-in-Some c =
+    let k = (goal.at.returns-in-Some c).Else-elevation-lt-LOWEST_REFRACTED in
+    rw (seen k, c.in-Some.is)
     (c.measured_refraction.ensures ∙ ap (measured_refraction _ _) (e k.before).same)
