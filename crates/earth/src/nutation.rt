@@ -1,6 +1,5 @@
 // Nutation and obliquity.
 ghost use Rattle.std.specs.Prelude.{◌≡◌, ◌≤◌, ◌^◌, nat_abs, ◌+ℤ◌};
-ghost use Rattle.number_rules.specs.SineTable.{sines};
 ghost use Rattle.sum_rules.specs.Instant.{Reached};
 ghost use Rattle.sum_rules.specs.Table.{total};
 ghost use Rattle.sum_terms.specs.TermRange.{Turns};
@@ -104,19 +103,19 @@ fn weight(u: i64, a: i32, b: i32) -> i64
 }
 
 // One row by sine and by cosine.
-fn row_terms(table: &[u32; 361], arguments: [i64; 5], u: i64, row: [i32; 9]) -> TermSums
-    requires { (table.now ≡ sines) × (Turns arguments × ((nat_abs u ≤ 2 ^ 20) × SmallRow row)) }
+fn row_terms(arguments: [i64; 5], u: i64, row: [i32; 9]) -> TermSums
+    requires { Turns arguments × ((nat_abs u ≤ 2 ^ 20) × SmallRow row) }
     ensures { (result.sine ≡ sine_term arguments u row) × (result.cosine ≡ cosine_term arguments u row) }
 {
     let angle = row_angle(arguments, row);
     let first = weight(u, row[5], row[6]);
     let second = weight(u, row[7], row[8]);
-    weighted(table, first, second, angle)
+    weighted(first, second, angle)
 }
 
 // All rows by sine and by cosine.
-fn term_sums(table: &[u32; 361], arguments: [i64; 5], u: i64, terms: &[[i32; 9]]) -> TermSums
-    requires { (table.now ≡ sines) × (Turns arguments × ((nat_abs u ≤ 2 ^ 20) × Summable terms.now)) }
+fn term_sums(arguments: [i64; 5], u: i64, terms: &[[i32; 9]]) -> TermSums
+    requires { Turns arguments × ((nat_abs u ≤ 2 ^ 20) × Summable terms.now) }
     ensures { (result.sine ≡ total (sine_term arguments u) terms.now)
         × (result.cosine ≡ total (cosine_term arguments u) terms.now) }
 {
@@ -124,7 +123,7 @@ fn term_sums(table: &[u32; 361], arguments: [i64; 5], u: i64, terms: &[[i32; 9]]
     let mut cosine: i64 = 0;
     let mut i: usize = 0;
     while i < terms.len() {
-        let row = row_terms(table, arguments, u, terms[i]);
+        let row = row_terms(arguments, u, terms[i]);
         sine = sine + row.sine;
         cosine = cosine + row.cosine;
         i = i + 1;
@@ -132,12 +131,12 @@ fn term_sums(table: &[u32; 361], arguments: [i64; 5], u: i64, terms: &[[i32; 9]]
     TermSums { sine, cosine }
 }
 
-// The nutation at TT, over a lent sine table and the powers of the instant.
-pub fn nutation_at(table: &[u32; 361], t: Powers) -> Nutation
-    requires { (table.now ≡ sines) × Reached t }
+// The nutation at TT, over the powers of the instant.
+pub fn nutation_at(t: Powers) -> Nutation
+    requires { Reached t }
     ensures { (result.longitude ≡ Δψ t.n) × (result.obliquity ≡ Δε t.n) }
 {
-    let sums = term_sums(table, arguments(t), t.u, &nutation_terms());
+    let sums = term_sums(arguments(t), t.u, &nutation_terms());
     Nutation {
         longitude: floor_div(25 * sums.sine, 90_000_000_000),
         obliquity: floor_div(25 * sums.cosine, 90_000_000_000),

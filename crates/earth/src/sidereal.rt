@@ -1,11 +1,10 @@
 // Sidereal time at Greenwich, of UT.
 ghost use Rattle.std.specs.Prelude.{◌≡◌, ◌≤◌, ◌^◌, nat_abs};
-ghost use Rattle.number_rules.specs.SineTable.{sines};
 ghost use Rattle.sum_rules.specs.Instant.{Reached};
 ghost use Rattle.sum_rules.specs.Sidereal.{mean, apparent};
 
 use numbers::angle::Angle;
-use numbers::sine::cosine_in;
+use numbers::sine::cosine;
 use numbers::whole::{floor_div, mul_div};
 use sum_rules::instant::{DAY, Powers};
 
@@ -21,9 +20,9 @@ pub fn mean_at(t: Powers) -> u64
 }
 
 // The apparent sidereal time, with the nutation Δψ and the obliquity.
-pub fn apparent_at(table: &[u32; 361], t: Powers, nutation: i64, obliquity: i64) -> i64
-    requires { (table.now ≡ sines) × (Reached t × (nat_abs nutation ≤ 2 ^ 32)) }
+pub fn apparent_at(t: Powers, nutation: i64, obliquity: i64) -> i64
+    requires { Reached t × (nat_abs nutation ≤ 2 ^ 32) }
     ensures { result ≡ apparent t.n nutation obliquity }
 {
-    mean_at(t) as i64 + floor_div(nutation * cosine_in(table, obliquity), 1_000_000_000)
+    mean_at(t) as i64 + floor_div(nutation * cosine(obliquity), 1_000_000_000)
 }

@@ -1,6 +1,5 @@
 // The Moon's sums: longitude, latitude and distance from the Earth's centre, before nutation.
 ghost use Rattle.std.specs.Prelude.{◌≡◌, ◌≤◌, ◌^◌, nat_abs};
-ghost use Rattle.number_rules.specs.SineTable.{sines};
 ghost use Rattle.sum_rules.specs.Instant.{furthest, Reached};
 ghost use Rattle.sum_rules.specs.Accuracy.{MoonNear};
 ghost use Rattle.sum_rules.specs.Table.{total};
@@ -9,8 +8,7 @@ ghost use Rattle.moon_sums.specs.MoonRange.{Slight, SmallRow, Summable};
 ghost use Rattle.sum_terms.specs.TermRange.{Turns};
 
 use numbers::angle::Angle;
-use numbers::sine::sine_in;
-use numbers::sine_table::table;
+use numbers::sine::sine;
 use numbers::whole::{absolute, floor_div};
 use sum_rules::instant::{Polynomial, Powers};
 use sum_rules::moon::Eccentricity;
@@ -154,24 +152,19 @@ fn weight(e: Eccentricity, m: i32, l: i32) -> i64
 }
 
 // One row by sine and by cosine. No row's angle has L' in it.
-fn row_terms(table: &[u32; 361], arguments: [i64; 5], e: Eccentricity, row: [i32; 6]) -> TermSums
-    requires { (table.now ≡ sines) × (Turns arguments × (Slight e × SmallRow row)) }
+fn row_terms(arguments: [i64; 5], e: Eccentricity, row: [i32; 6]) -> TermSums
+    requires { Turns arguments × (Slight e × SmallRow row) }
     ensures { (result.sine ≡ sine_term arguments e row) × (result.cosine ≡ cosine_term arguments e row) }
 {
     let angle = angle_of(arguments, [0, row[0], row[1], row[2], row[3]]);
     let first = weight(e, row[1], row[4]);
     let second = weight(e, row[1], row[5]);
-    weighted(table, first, second, angle)
+    weighted(first, second, angle)
 }
 
 // All rows of a table by sine and by cosine.
-fn term_sums(
-    table: &[u32; 361],
-    arguments: [i64; 5],
-    e: Eccentricity,
-    terms: &[[i32; 6]],
-) -> TermSums
-    requires { (table.now ≡ sines) × (Turns arguments × (Slight e × Summable terms.now)) }
+fn term_sums(arguments: [i64; 5], e: Eccentricity, terms: &[[i32; 6]]) -> TermSums
+    requires { Turns arguments × (Slight e × Summable terms.now) }
     ensures { (result.sine ≡ total (sine_term arguments e) terms.now)
         × (result.cosine ≡ total (cosine_term arguments e) terms.now) }
 {
@@ -179,7 +172,7 @@ fn term_sums(
     let mut cosine: i64 = 0;
     let mut i: usize = 0;
     while i < terms.len() {
-        let row = row_terms(table, arguments, e, terms[i]);
+        let row = row_terms(arguments, e, terms[i]);
         sine = sine + row.sine;
         cosine = cosine + row.cosine;
         i = i + 1;
@@ -188,42 +181,40 @@ fn term_sums(
 }
 
 // A term outside the tables, at weight 100.
-fn added(table: &[u32; 361], weight: i64, angle: i64) -> i64
-    requires { (table.now ≡ sines) × (nat_abs weight ≤ 4_000) }
+fn added(weight: i64, angle: i64) -> i64
+    requires { nat_abs weight ≤ 4_000 }
     ensures { result ≡ added weight angle }
 {
-    100 * weight * sine_in(table, angle)
+    100 * weight * sine(angle)
 }
 
 // The longitude's rows and what is added to them.
-fn longitude_added(table: &[u32; 361], sum: i64, arguments: [i64; 5], a1: i64, a2: i64) -> i64
-    requires { (table.now ≡ sines) × ((nat_abs sum ≤ 2 ^ 62) × Turns arguments) }
+fn longitude_added(sum: i64, arguments: [i64; 5], a1: i64, a2: i64) -> i64
+    requires { (nat_abs sum ≤ 2 ^ 62) × Turns arguments }
     ensures { result ≡ longitude_added sum arguments a1 a2 }
 {
-    sum + added(table, 3958, a1)
-        + added(table, 1962, arguments[0] - arguments[4])
-        + added(table, 318, a2)
+    sum + added(3958, a1) + added(1962, arguments[0] - arguments[4]) + added(318, a2)
 }
 
 // The latitude's rows and what is added to them: L' is the mean longitude, M' the anomaly, F is from the node.
-fn latitude_added(table: &[u32; 361], sum: i64, arguments: [i64; 5], a1: i64, a3: i64) -> i64
-    requires { (table.now ≡ sines) × ((nat_abs sum ≤ 2 ^ 62) × (Turns arguments × (nat_abs a1 ≤ 2 ^ 36))) }
+fn latitude_added(sum: i64, arguments: [i64; 5], a1: i64, a3: i64) -> i64
+    requires { (nat_abs sum ≤ 2 ^ 62) × (Turns arguments × (nat_abs a1 ≤ 2 ^ 36)) }
     ensures { result ≡ latitude_added sum arguments a1 a3 }
 {
     let mean = arguments[0];
     let anomaly = arguments[3];
     let node = arguments[4];
-    sum + added(table, -2235, mean)
-        + added(table, 382, a3)
-        + added(table, 175, a1 - node)
-        + added(table, 175, a1 + node)
-        + added(table, 127, mean - anomaly)
-        + added(table, -115, mean + anomaly)
+    sum + added(-2235, mean)
+        + added(382, a3)
+        + added(175, a1 - node)
+        + added(175, a1 + node)
+        + added(127, mean - anomaly)
+        + added(-115, mean + anomaly)
 }
 
-// The Moon at TT, over a lent sine table and the powers of the instant.
-pub fn moon_at(table: &[u32; 361], t: Powers) -> MoonPlace
-    requires { (table.now ≡ sines) × Reached t }
+// The Moon at TT, over the powers of the instant.
+pub fn moon_at(t: Powers) -> MoonPlace
+    requires { Reached t }
     ensures { (result.longitude ≡ longitude t.n) × ((result.latitude ≡ latitude t.n) × ((result.metres ≡ metres t.n) × MoonNear t.n)) }
 {
     let arguments = arguments(t);
@@ -231,10 +222,10 @@ pub fn moon_at(table: &[u32; 361], t: Powers) -> MoonPlace
     let a1 = value_at(VENUS, t);
     let a2 = value_at(JUPITER, t);
     let a3 = value_at(THIRD, t);
-    let first = term_sums(table, arguments, e, &longitude_distance_terms());
-    let second = term_sums(table, arguments, e, &latitude_terms());
-    let longitude_sum = longitude_added(table, first.sine, arguments, a1, a2);
-    let latitude_sum = latitude_added(table, second.sine, arguments, a1, a3);
+    let first = term_sums(arguments, e, &longitude_distance_terms());
+    let second = term_sums(arguments, e, &latitude_terms());
+    let longitude_sum = longitude_added(first.sine, arguments, a1, a2);
+    let latitude_sum = latitude_added(second.sine, arguments, a1, a3);
     MoonPlace {
         longitude: Angle::new(arguments[0] + floor_div(longitude_sum, 1_000_000_000)).units,
         latitude: floor_div(latitude_sum, 1_000_000_000),
@@ -247,5 +238,5 @@ pub fn moon(n: i64) -> MoonPlace
     requires { nat_abs n ≤ furthest }
     ensures { (result.longitude ≡ longitude n) × ((result.latitude ≡ latitude n) × ((result.metres ≡ metres n) × MoonNear n)) }
 {
-    moon_at(&table(), powers_at(n))
+    moon_at(powers_at(n))
 }

@@ -1,10 +1,9 @@
 // What the sums by sine and cosine share: a row's angle, and what it adds.
 ghost use Rattle.std.specs.Prelude.{◌≡◌, ◌≤◌, ◌^◌, nat_abs, ◌*ℤ◌};
 ghost use Rattle.number_rules.specs.Sine.{cosine, sine};
-ghost use Rattle.number_rules.specs.SineTable.{sines};
 ghost use Rattle.sum_terms.specs.TermRange.{Few, Turns, angle_of};
 
-use numbers::sine::{cosine_in, sine_in};
+use numbers::sine::{cosine, sine};
 
 // What is summed by sine and by cosine.
 #[derive(Clone, Copy)]
@@ -26,15 +25,15 @@ pub fn angle_of(arguments: [i64; 5], multiples: [i32; 5]) -> i64
 }
 
 // One row: its first weight by sine, its second by cosine. Many rows go by sine alone.
-pub fn weighted(table: &[u32; 361], first: i64, second: i64, angle: i64) -> TermSums
-    requires { (table.now ≡ sines) × ((nat_abs first ≤ 2 ^ 32) × (nat_abs second ≤ 2 ^ 32)) }
+pub fn weighted(first: i64, second: i64, angle: i64) -> TermSums
+    requires { (nat_abs first ≤ 2 ^ 32) × (nat_abs second ≤ 2 ^ 32) }
     ensures { (result.sine ≡ first *ℤ sine angle) × (result.cosine ≡ second *ℤ cosine angle) }
 {
-    let sine = first * sine_in(table, angle);
+    let sine = first * sine(angle);
     if second == 0 {
         TermSums { sine, cosine: 0 }
     } else {
-        let cosine = second * cosine_in(table, angle);
+        let cosine = second * cosine(angle);
         TermSums { sine, cosine }
     }
 }

@@ -1,14 +1,12 @@
 // The Sun's sums: the Earth's heliocentric longitude L, latitude B and radius R, in 10⁻¹⁰ radian or AU, before any turn is taken off.
 ghost use Rattle.std.specs.Prelude.{◌≡◌, ◌≤◌, ◌^◌, nat_abs, ◌+ℤ◌, ◌*ℤ◌};
 ghost use Rattle.arithmetic.specs.Floor.{⌊◌÷◌⌋};
-ghost use Rattle.number_rules.specs.SineTable.{sines};
 ghost use Rattle.sum_rules.specs.Instant.{furthest, millennium, u, Reached};
 ghost use Rattle.sum_rules.specs.Accuracy.{SunNear};
 ghost use Rattle.sum_rules.specs.Sun.{phase, row_angle, row_value, group, L, B, R, longitude_degrees, latitude_degrees};
 ghost use Rattle.sun_sums.specs.SunRange.{SmallRay, Summable};
 
-use numbers::sine::cosine_in;
-use numbers::sine_table::table;
+use numbers::sine::cosine;
 use numbers::whole::{floor_div, floor_mod, mul_div};
 use sum_rules::instant::{CENTURY, Powers};
 use sum_tables::sun_terms::{b0, b1, l0, l1, l2, l3, l4, l5, r0, r1, r2, r3, r4};
@@ -41,8 +39,8 @@ fn row_angle(n: i64, b: u64, c: u64) -> u64
 }
 
 // A row: a constant one (A, 0, 0) may pass 64 bits times its cosine, and is 100 A.
-fn row_value(table: &[u32; 361], n: i64, row: [u64; 3]) -> i64
-    requires { (table.now ≡ sines) × ((nat_abs n ≤ furthest) × SmallRay row) }
+fn row_value(n: i64, row: [u64; 3]) -> i64
+    requires { (nat_abs n ≤ furthest) × SmallRay row }
     ensures { result ≡ row_value n row }
 {
     let a = row[0];
@@ -51,85 +49,82 @@ fn row_value(table: &[u32; 361], n: i64, row: [u64; 3]) -> i64
     if b + c == 0 {
         100 * a as i64
     } else {
-        floor_div(
-            a as i64 * cosine_in(table, row_angle(n, b, c) as i64),
-            10_000_000,
-        )
+        floor_div(a as i64 * cosine(row_angle(n, b, c) as i64), 10_000_000)
     }
 }
 
 // The rows of a group added.
-fn group(table: &[u32; 361], n: i64, rows: &[[u64; 3]]) -> i64
-    requires { (table.now ≡ sines) × ((nat_abs n ≤ furthest) × Summable rows.now) }
+fn group(n: i64, rows: &[[u64; 3]]) -> i64
+    requires { (nat_abs n ≤ furthest) × Summable rows.now }
     ensures { result ≡ group n rows.now }
 {
     let mut sum: i64 = 0;
     let mut i: usize = 0;
     while i < rows.len() {
-        sum = sum + row_value(table, n, rows[i]);
+        sum = sum + row_value(n, rows[i]);
         i = i + 1;
     }
     sum
 }
 
 // A group, and v of the groups above it, by u.
-fn onto(table: &[u32; 361], t: Powers, rows: &[[u64; 3]], v: i64) -> i64
-    requires { (table.now ≡ sines) × (Reached t × (Summable rows.now × (nat_abs v ≤ 2 ^ 42))) }
+fn onto(t: Powers, rows: &[[u64; 3]], v: i64) -> i64
+    requires { Reached t × (Summable rows.now × (nat_abs v ≤ 2 ^ 42)) }
     ensures { result ≡ group t.n rows.now +ℤ ⌊ v *ℤ u t.n ÷ 10_000_000 ⌋ }
 {
-    group(table, t.n, rows) + floor_div(v * t.u, 10_000_000)
+    group(t.n, rows) + floor_div(v * t.u, 10_000_000)
 }
 
 // Group 0, and v of the groups above it, by the time itself.
-fn into_first(table: &[u32; 361], n: i64, rows: &[[u64; 3]], v: i64) -> i64
-    requires { (table.now ≡ sines) × ((nat_abs n ≤ furthest) × (Summable rows.now × (nat_abs v ≤ 2 ^ 46))) }
+fn into_first(n: i64, rows: &[[u64; 3]], v: i64) -> i64
+    requires { (nat_abs n ≤ furthest) × (Summable rows.now × (nat_abs v ≤ 2 ^ 46)) }
     ensures { result ≡ group n rows.now +ℤ ⌊ v *ℤ n ÷ millennium ⌋ }
 {
-    group(table, n, rows) + mul_div(v, n, MILLENNIUM)
+    group(n, rows) + mul_div(v, n, MILLENNIUM)
 }
 
 // L.
-fn heliocentric_longitude(table: &[u32; 361], t: Powers) -> i64
-    requires { (table.now ≡ sines) × Reached t }
+fn heliocentric_longitude(t: Powers) -> i64
+    requires { Reached t }
     ensures { result ≡ L t.n }
 {
-    let v5 = onto(table, t, &l5(), 0);
-    let v4 = onto(table, t, &l4(), v5);
-    let v3 = onto(table, t, &l3(), v4);
-    let v2 = onto(table, t, &l2(), v3);
-    let v1 = onto(table, t, &l1(), v2);
-    into_first(table, t.n, &l0(), v1)
+    let v5 = onto(t, &l5(), 0);
+    let v4 = onto(t, &l4(), v5);
+    let v3 = onto(t, &l3(), v4);
+    let v2 = onto(t, &l2(), v3);
+    let v1 = onto(t, &l1(), v2);
+    into_first(t.n, &l0(), v1)
 }
 
 // B.
-fn heliocentric_latitude(table: &[u32; 361], t: Powers) -> i64
-    requires { (table.now ≡ sines) × Reached t }
+fn heliocentric_latitude(t: Powers) -> i64
+    requires { Reached t }
     ensures { result ≡ B t.n }
 {
-    let v1 = onto(table, t, &b1(), 0);
-    into_first(table, t.n, &b0(), v1)
+    let v1 = onto(t, &b1(), 0);
+    into_first(t.n, &b0(), v1)
 }
 
 // R.
-fn heliocentric_radius(table: &[u32; 361], t: Powers) -> i64
-    requires { (table.now ≡ sines) × Reached t }
+fn heliocentric_radius(t: Powers) -> i64
+    requires { Reached t }
     ensures { result ≡ R t.n }
 {
-    let v4 = onto(table, t, &r4(), 0);
-    let v3 = onto(table, t, &r3(), v4);
-    let v2 = onto(table, t, &r2(), v3);
-    let v1 = onto(table, t, &r1(), v2);
-    into_first(table, t.n, &r0(), v1)
+    let v4 = onto(t, &r4(), 0);
+    let v3 = onto(t, &r3(), v4);
+    let v2 = onto(t, &r2(), v3);
+    let v1 = onto(t, &r1(), v2);
+    into_first(t.n, &r0(), v1)
 }
 
-// The Sun's sums at TT, over a lent sine table and the powers of the instant.
-pub fn sun_at(table: &[u32; 361], t: Powers) -> SunSums
-    requires { (table.now ≡ sines) × Reached t }
+// The Sun's sums at TT, over the powers of the instant.
+pub fn sun_at(t: Powers) -> SunSums
+    requires { Reached t }
     ensures { (result.longitude ≡ L t.n) × ((result.latitude ≡ B t.n) × ((result.radius ≡ R t.n) × SunNear t.n)) }
 {
-    let longitude = heliocentric_longitude(table, t);
-    let latitude = heliocentric_latitude(table, t);
-    let radius = heliocentric_radius(table, t);
+    let longitude = heliocentric_longitude(t);
+    let latitude = heliocentric_latitude(t);
+    let radius = heliocentric_radius(t);
     SunSums {
         longitude,
         latitude,
@@ -142,7 +137,7 @@ pub fn sun(n: i64) -> SunSums
     requires { nat_abs n ≤ furthest }
     ensures { (result.longitude ≡ L n) × ((result.latitude ≡ B n) × ((result.radius ≡ R n) × SunNear n)) }
 {
-    sun_at(&table(), powers_at(n))
+    sun_at(powers_at(n))
 }
 
 // L in 10⁻⁸ degree, less whole turns.

@@ -20,10 +20,10 @@ module _ (s : Start) where
   n = s.args.t.n
 
   sine_sums : Summing (sine_term (arguments n) (u n)) nutation_terms (2 ^ 57)
-  sine_sums = sine_summing (arguments n) (u n) (u_small n s.requires.1.near) nutation_terms nutation_fits
+  sine_sums = sine_summing (arguments n) (u n) (u_small n s.requires.near) nutation_terms nutation_fits
 
   cosine_sums : Summing (cosine_term (arguments n) (u n)) nutation_terms (2 ^ 57)
-  cosine_sums = cosine_summing (arguments n) (u n) (u_small n s.requires.1.near) nutation_terms nutation_fits
+  cosine_sums = cosine_summing (arguments n) (u n) (u_small n s.requires.near) nutation_terms nutation_fits
 
 module _ (c : After-term_sums-sums) where
   abbrev begun : Start
@@ -31,12 +31,12 @@ module _ (c : After-term_sums-sums) where
 
   sine_is : c.term_sums-sums.result.sine ≡ total (sine_term (arguments (n begun)) (u (n begun))) nutation_terms
   sine_is =
-      c.term_sums-sums.ensures.0 ∙ (λ i. total (sine_term (c.arguments.ensures i) ((u_told begun.requires.1).same i))
+      c.term_sums-sums.ensures.0 ∙ (λ i. total (sine_term (c.arguments.ensures i) ((u_told begun.requires).same i))
       (c.nutation_terms.ensures i))
 
   cosine_is : c.term_sums-sums.result.cosine ≡ total (cosine_term (arguments (n begun)) (u (n begun))) nutation_terms
   cosine_is =
-      c.term_sums-sums.ensures.1 ∙ (λ i. total (cosine_term (c.arguments.ensures i) ((u_told begun.requires.1).same i))
+      c.term_sums-sums.ensures.1 ∙ (λ i. total (cosine_term (c.arguments.ensures i) ((u_told begun.requires).same i))
       (c.nutation_terms.ensures i))
 
   abbrev sine_scaled : Mirror
@@ -48,7 +48,7 @@ module _ (c : After-term_sums-sums) where
 pub term_sums-sums-requires : goal.term_sums-sums-requires
 term_sums-sums-requires c =
     let s = (goal.at.term_sums-sums-requires c).Start in
-    (s.requires.0, (subst⁻¹ Turns c.arguments.ensures (arguments_turn (n s)), (asked (u_told s.requires.1) tt, subst⁻¹ Summable c.nutation_terms.ensures nutation_fits)))
+    (subst⁻¹ Turns c.arguments.ensures (arguments_turn (n s)), (asked (u_told s.requires) tt, subst⁻¹ Summable c.nutation_terms.ensures nutation_fits))
 
 pub overflow_mul-sums-2 : goal.overflow_mul-sums-2
 overflow_mul-sums-2 c = fits (cosine_scaled (goal.at.overflow_mul-sums-2 c).After-term_sums-sums) tt

@@ -22,10 +22,10 @@ module _ (s : Start) where
   row = s.args.row
 
   abbrev u_mirror : Mirror
-  u_mirror = arg s.ranges.u s.requires.1.1.0
+  u_mirror = arg s.ranges.u s.requires.1.0
 
   abbrev small : SmallRow row
-  small = s.requires.1.1.1
+  small = s.requires.1.1
 
 -- where the function began, from each call
 abbrev from_angle : After-row_angle-angle → Start
@@ -44,13 +44,13 @@ abbrev first : After-weight-first → Mirror
 first c =
     let s = from_first c in
     gave c.weight-first.type_inv (c.weight-first.ensures ∙ (λ i. weight ((u_mirror s).same i) (column_same (small s) 5 tt tt i) (column_same (small s) 6 tt tt i)))
-    (weight_small s.args.u s.requires.1.1.0 (column (row s) 5) (column (row s) 6) (column_most (small s) 5 tt tt) (column_most (small s) 6 tt tt))
+    (weight_small s.args.u s.requires.1.0 (column (row s) 5) (column (row s) 6) (column_most (small s) 5 tt tt) (column_most (small s) 6 tt tt))
 
 abbrev second : After-weight-second → Mirror
 second c =
     let s = from_second c in
     gave c.weight-second.type_inv (c.weight-second.ensures ∙ (λ i. weight ((u_mirror s).same i) (column_same (small s) 7 tt tt i) (column_same (small s) 8 tt tt i)))
-    (weight_small s.args.u s.requires.1.1.0 (column (row s) 7) (column (row s) 8) (column_most (small s) 7 tt tt) (column_most (small s) 8 tt tt))
+    (weight_small s.args.u s.requires.1.0 (column (row s) 7) (column (row s) 8) (column_most (small s) 7 tt tt) (column_most (small s) 8 tt tt))
 
 pub weight-first-requires : goal.weight-first-requires
 weight-first-requires c =
@@ -63,7 +63,7 @@ weight-second-requires c =
     (asked (u_mirror s) tt, (column_handed (small s) 7 tt tt, column_handed (small s) 8 tt tt))
 
 pub weighted-requires : goal.weighted-requires
-weighted-requires c = ((from_second (goal.at.weighted-requires c).After-weight-second).requires.0, (asked (first (goal.at.weighted-requires c).After-weight-first) tt, asked (second (goal.at.weighted-requires c).After-weight-second) tt))
+weighted-requires c = (asked (first (goal.at.weighted-requires c).After-weight-first) tt, asked (second (goal.at.weighted-requires c).After-weight-second) tt)
 
 pub returns : goal.returns
 returns c =

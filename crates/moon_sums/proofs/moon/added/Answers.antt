@@ -5,15 +5,15 @@ use Rattle.number_rules.specs.Sine.{sine}
 use Rattle.numbers.proofs.Machine.{Mirror, ◌⊗◌, any, arg, fits, gave, kept, lit}
 use Rattle.number_rules.proofs.SineSize.{sine_most}
 use Rattle.moon_sums.proofs.moon.added.Goals as goal
-use Rattle.moon_sums.proofs.moon.added.Goals.{After-sine_in, Start}
+use Rattle.moon_sums.proofs.moon.added.Goals.{After-sine, Start}
 
 abbrev factor : Start → Mirror
-factor s = lit (pos 100) ⊗ arg s.ranges.weight s.requires.1
+factor s = lit (pos 100) ⊗ arg s.ranges.weight s.requires
 
-abbrev product : After-sine_in → Mirror
+abbrev product : After-sine → Mirror
 product c =
     kept (factor c.before) tt
-    ⊗ gave c.sine_in.type_inv (c.sine_in.ensures ∙ ap sine (any c.ranges.angle).same) (sine_most c.args.angle)
+    ⊗ gave c.sine.type_inv (c.sine.ensures ∙ ap sine (any c.ranges.angle).same) (sine_most c.args.angle)
 
 pub overflow_mul-result : goal.overflow_mul-result
 overflow_mul-result c = fits (factor c) tt

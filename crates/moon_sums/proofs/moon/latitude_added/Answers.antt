@@ -10,10 +10,10 @@ use Rattle.moon_sums.proofs.moon.latitude_added.Goals.{After-added, After-added-
 
 module _ (s : Start) where
   abbrev argument : ℕ → Mirror
-  argument i = told {r = column s.args.arguments i} refl (s.requires.1.1.0.below i) tt
+  argument i = told {r = column s.args.arguments i} refl (s.requires.1.0.below i) tt
 
   abbrev a1 : Mirror
-  a1 = arg s.ranges.a1 s.requires.1.1.1
+  a1 = arg s.ranges.a1 s.requires.1.1
 
   abbrev a1_less_F : Mirror
   a1_less_F = a1 ⊖ argument 4
@@ -50,7 +50,7 @@ from6 c = from5 c.before
 abbrev sum1 : After-added → Mirror
 sum1 c =
     let s = from1 c in
-    arg s.ranges.sum s.requires.1.0 ⊕ added_gave (negsuc 2234) (column s.args.arguments 0) c.added.type_inv c.added.ensures (argument s 0).same tt
+    arg s.ranges.sum s.requires.0 ⊕ added_gave (negsuc 2234) (column s.args.arguments 0) c.added.type_inv c.added.ensures (argument s 0).same tt
 
 abbrev sum2 : After-added-2 → Mirror
 sum2 c = kept (sum1 c.before) tt ⊕ added_gave (pos 382) (from2 c).args.a3 c.added-2.type_inv c.added-2.ensures (any (from2 c).ranges.a3).same tt

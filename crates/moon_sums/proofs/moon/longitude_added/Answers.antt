@@ -10,7 +10,7 @@ use Rattle.moon_sums.proofs.moon.longitude_added.Goals.{After-added, After-added
 
 module _ (s : Start) where
   abbrev argument : ℕ → Mirror
-  argument i = told {r = column s.args.arguments i} refl (s.requires.1.1.below i) tt
+  argument i = told {r = column s.args.arguments i} refl (s.requires.1.below i) tt
 
   abbrev L'_less_F : Mirror
   L'_less_F = argument 0 ⊖ argument 4
@@ -25,7 +25,7 @@ from3 c = from2 c.before
 -- the sum with each term
 abbrev sum1 : After-added → Mirror
 sum1 c =
-    arg c.ranges.sum c.requires.1.0 ⊕ added_gave (pos 3958) c.args.a1 c.added.type_inv c.added.ensures (any c.ranges.a1).same tt
+    arg c.ranges.sum c.requires.0 ⊕ added_gave (pos 3958) c.args.a1 c.added.type_inv c.added.ensures (any c.ranges.a1).same tt
 
 abbrev sum2 : After-added-2 → Mirror
 sum2 c =

@@ -36,7 +36,7 @@ module _ (v : After-value_at-a3) where
   n = begun.args.t.n
 
   abbrev near : nat_abs n ≤ furthest
-  near = begun.requires.1.near
+  near = begun.requires.near
 
   turns : Turns at_arguments.arguments-arguments.result
   turns = subst⁻¹ Turns at_arguments.arguments-arguments.ensures (arguments_turn n)
@@ -130,22 +130,22 @@ metres_total c =
 pub term_sums-first-requires : goal.term_sums-first-requires
 term_sums-first-requires c =
     let v = (goal.at.term_sums-first-requires c).After-value_at-a3 in
-    ((begun v).requires.0, (turns v, (slight v, subst⁻¹ Summable c.longitude_distance_terms.ensures longitude_distance_fits)))
+    (turns v, (slight v, subst⁻¹ Summable c.longitude_distance_terms.ensures longitude_distance_fits))
 
 pub term_sums-second-requires : goal.term_sums-second-requires
 term_sums-second-requires c =
     let v = values (goal.at.term_sums-second-requires c).After-term_sums-first in
-    ((begun v).requires.0, (turns v, (slight v, subst⁻¹ Summable c.latitude_terms.ensures latitude_fits)))
+    (turns v, (slight v, subst⁻¹ Summable c.latitude_terms.ensures latitude_fits))
 
 pub longitude_added-longitude_sum-requires : goal.longitude_added-longitude_sum-requires
 longitude_added-longitude_sum-requires c =
     let v = values2 (goal.at.longitude_added-longitude_sum-requires c).After-term_sums-second in
-    ((begun v).requires.0, (asked (longitude_rows (goal.at.longitude_added-longitude_sum-requires c).After-term_sums-first) tt, turns v))
+    (asked (longitude_rows (goal.at.longitude_added-longitude_sum-requires c).After-term_sums-first) tt, turns v)
 
 pub latitude_added-latitude_sum-requires : goal.latitude_added-latitude_sum-requires
 latitude_added-latitude_sum-requires c =
     let v = values3 (goal.at.latitude_added-latitude_sum-requires c).After-longitude_added-longitude_sum in
-    ((begun v).requires.0, (asked (latitude_rows (goal.at.latitude_added-latitude_sum-requires c).After-term_sums-second) tt, (turns v, asked (a1 v) tt)))
+    (asked (latitude_rows (goal.at.latitude_added-latitude_sum-requires c).After-term_sums-second) tt, (turns v, asked (a1 v) tt))
 
 pub returns : goal.returns
 unfolding longitude latitude metres

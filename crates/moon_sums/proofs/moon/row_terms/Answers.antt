@@ -29,10 +29,10 @@ module _ (s : Start) where
   row = s.args.row
 
   abbrev slight : Slight e
-  slight = s.requires.1.1.0
+  slight = s.requires.1.0
 
   abbrev small : SmallRow row
-  small = s.requires.1.1.1
+  small = s.requires.1.1
 
   abbrev multiples : List ℤ
   multiples = pos 0 ∷ column row 0 ∷ column row 1 ∷ column row 2 ∷ column row 3 ∷ []
@@ -74,7 +74,7 @@ second c =
     (weight_small (e s) (slight s) (nat_abs (column (row s) 1)) (column (row s) 5) (column_most (small s) 5 tt tt))
 
 pub angle_of-angle-requires : goal.angle_of-angle-requires
-angle_of-angle-requires c = (c.requires.1.0, few (goal.at.angle_of-angle-requires c).Start)
+angle_of-angle-requires c = (c.requires.0, few (goal.at.angle_of-angle-requires c).Start)
 
 pub weight-first-requires : goal.weight-first-requires
 weight-first-requires c =
@@ -87,7 +87,7 @@ weight-second-requires c =
     (slight s, (column_handed (small s) 1 tt tt, column_handed (small s) 5 tt tt))
 
 pub weighted-requires : goal.weighted-requires
-weighted-requires c = ((from_second (goal.at.weighted-requires c).After-weight-second).requires.0, (asked (first (goal.at.weighted-requires c).After-weight-first) tt, asked (second (goal.at.weighted-requires c).After-weight-second) tt))
+weighted-requires c = (asked (first (goal.at.weighted-requires c).After-weight-first) tt, asked (second (goal.at.weighted-requires c).After-weight-second) tt)
 
 pub returns : goal.returns
 returns c =

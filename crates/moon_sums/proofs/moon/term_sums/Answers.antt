@@ -30,12 +30,12 @@ module _ (c : After-row_terms-row) where
 
   sine_next : Next (sine_term begun.args.arguments begun.args.e) rows turn.loop-i.i turn.loop-i.sine-bits c.row_terms-row.result.sine
   sine_next =
-      next (sine_summing begun.args.arguments begun.args.e begun.requires.1.1.0 rows begun.requires.1.1.1) tt
+      next (sine_summing begun.args.arguments begun.args.e begun.requires.1.0 rows begun.requires.1.1) tt
       turn.loop-i.i turn.loop-i.sine-bits inside turn.loop-i.invariant.1.0 c.row_terms-row.ensures.0
 
   cosine_next : Next (cosine_term begun.args.arguments begun.args.e) rows turn.loop-i.i turn.loop-i.cosine-bits c.row_terms-row.result.cosine
   cosine_next =
-      next (cosine_summing begun.args.arguments begun.args.e begun.requires.1.1.0 rows begun.requires.1.1.1) tt
+      next (cosine_summing begun.args.arguments begun.args.e begun.requires.1.0 rows begun.requires.1.1) tt
       turn.loop-i.i turn.loop-i.cosine-bits inside turn.loop-i.invariant.1.1 c.row_terms-row.ensures.1
 
 pub loop-i-init : goal.loop-i-init
@@ -44,7 +44,7 @@ loop-i-init c = (zero-le, (refl, refl))
 
 pub row_terms-row-requires : goal.row_terms-row-requires
 row_terms-row-requires c =
-    (c.requires.0, (c.requires.1.0, (c.requires.1.1.0, c.requires.1.1.1.each c.loop-i.i c.loop-i-test.true)))
+    (c.requires.0, (c.requires.1.0, c.requires.1.1.each c.loop-i.i c.loop-i-test.true))
 
 pub loop-i-preserved : goal.loop-i-preserved
 loop-i-preserved c =

@@ -31,7 +31,7 @@ module _ (c : After-row_value-sum) where
 
   sum_next : Next (row_value (n (goal.at.At-loop-i turn).Start)) rows turn.loop-i.i turn.loop-i.sum-bits c.row_value-sum.result
   sum_next =
-      next (group_summing (n (goal.at.At-loop-i turn).Start) rows turn.requires.1.1) tt
+      next (group_summing (n (goal.at.At-loop-i turn).Start) rows turn.requires.1) tt
       turn.loop-i.i turn.loop-i.sum-bits inside turn.loop-i.invariant.1 c.row_value-sum.ensures
 
 pub loop-i-init : goal.loop-i-init
@@ -40,7 +40,7 @@ loop-i-init c = (zero-le, refl)
 
 pub row_value-sum-requires : goal.row_value-sum-requires
 row_value-sum-requires c =
-    (c.requires.0, (handed c.ranges.n c.requires.1.0, c.requires.1.1.each c.loop-i.i c.loop-i-test.true))
+    (handed c.ranges.n c.requires.0, c.requires.1.each c.loop-i.i c.loop-i-test.true)
 
 pub returns : goal.returns
 returns c =

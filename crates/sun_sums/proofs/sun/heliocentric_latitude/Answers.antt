@@ -13,18 +13,18 @@ abbrev from1 : After-onto-v1 → Start
 from1 c = c.before.before.before
 
 abbrev v1 : After-onto-v1 → Mirror
-v1 c = onto_gave B_sound 0 (from1 c).requires.1 tt c.onto-v1.type_inv c.onto-v1.ensures c.b1.ensures (none_above (from1 c).args.t.n)
+v1 c = onto_gave B_sound 0 (from1 c).requires tt c.onto-v1.type_inv c.onto-v1.ensures c.b1.ensures (none_above (from1 c).args.t.n)
 
 pub onto-v1-requires : goal.onto-v1-requires
-onto-v1-requires c = (c.requires.0, (c.requires.1, (lent_fits B_sound 1 tt c.b1.ensures, zero-le)))
+onto-v1-requires c = (c.requires, (lent_fits B_sound 1 tt c.b1.ensures, zero-le))
 
 pub into_first-requires : goal.into_first-requires
 into_first-requires c =
     let s = from1 (goal.at.into_first-requires c).After-onto-v1 in
-    (s.requires.0, (asked (instant_told s.requires.1) tt, (lent_fits B_sound 0 tt c.b0.ensures, asked (v1 (goal.at.into_first-requires c).After-onto-v1) tt)))
+    (asked (instant_told s.requires) tt, (lent_fits B_sound 0 tt c.b0.ensures, asked (v1 (goal.at.into_first-requires c).After-onto-v1) tt))
 
 pub returns : goal.returns
 returns c =
     let v = (goal.at.returns c).After-onto-v1 in
     let s = from1 v in
-    passed c.into_first.type_inv (series_is s.args.t.n B0 (B1 ∷ []) c.into_first.ensures (instant_told s.requires.1).same c.b0.ensures (v1 v).same)
+    passed c.into_first.type_inv (series_is s.args.t.n B0 (B1 ∷ []) c.into_first.ensures (instant_told s.requires).same c.b0.ensures (v1 v).same)

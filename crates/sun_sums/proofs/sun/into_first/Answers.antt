@@ -11,21 +11,21 @@ use Rattle.sun_sums.proofs.sun.into_first.Goals as goal
 use Rattle.sun_sums.proofs.sun.into_first.Goals.{After-group, After-mul_div, Start}
 
 abbrev v_mirror : Start → Mirror
-v_mirror s = arg s.ranges.v s.requires.1.1.1
+v_mirror s = arg s.ranges.v s.requires.1.1
 
 abbrev n_mirror : Start → Mirror
-n_mirror s = arg s.ranges.n s.requires.1.0
+n_mirror s = arg s.ranges.n s.requires.0
 
 abbrev group_mirror : After-group → Mirror
 group_mirror c =
     gave c.group.type_inv (c.group.ensures ∙ ap (λ (z : ℤ). group z c.args.rows.now) (n_mirror (goal.at.After-group c).Start).same)
-    (le_trans (group_most c.args.n c.args.rows.now) c.requires.1.1.0.all)
+    (le_trans (group_most c.args.n c.args.rows.now) c.requires.1.0.all)
 
 abbrev sum : After-mul_div → Mirror
 sum c = group_mirror (goal.at.After-mul_div c).After-group ⊕ mul_div_gave (v_mirror (goal.at.After-mul_div c).Start) (n_mirror (goal.at.After-mul_div c).Start) millennium c.mul_div.type_inv c.mul_div.ensures
 
 pub group-requires : goal.group-requires
-group-requires c = (c.requires.0, (asked (n_mirror (goal.at.group-requires c).Start) tt, c.requires.1.1.0))
+group-requires c = (asked (n_mirror (goal.at.group-requires c).Start) tt, c.requires.1.0)
 
 pub mul_div-requires : goal.mul_div-requires
 mul_div-requires c = mul_div_asked (v_mirror (goal.at.mul_div-requires c).Start) (n_mirror (goal.at.mul_div-requires c).Start) millennium tt

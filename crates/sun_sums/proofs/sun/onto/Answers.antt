@@ -10,13 +10,13 @@ use Rattle.sun_sums.proofs.sun.onto.Goals as goal
 use Rattle.sun_sums.proofs.sun.onto.Goals.{After-floor_div, After-group, Start}
 
 abbrev product : Start → Mirror
-product s = arg s.ranges.v s.requires.1.1.1 ⊗ u_told s.requires.1.0
+product s = arg s.ranges.v s.requires.1.1 ⊗ u_told s.requires.0
 
 abbrev group_mirror : After-group → Mirror
 group_mirror c =
     let n = c.args.t.n in
-    gave c.group.type_inv (c.group.ensures ∙ ap (λ (z : ℤ). group z c.args.rows.now) (instant_told c.requires.1.0).same)
-    (le_trans (group_most n c.args.rows.now) c.requires.1.1.0.all)
+    gave c.group.type_inv (c.group.ensures ∙ ap (λ (z : ℤ). group z c.args.rows.now) (instant_told c.requires.0).same)
+    (le_trans (group_most n c.args.rows.now) c.requires.1.0.all)
 
 abbrev sum : After-floor_div → Mirror
 sum c =

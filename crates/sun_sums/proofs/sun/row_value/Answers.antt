@@ -11,14 +11,14 @@ use Rattle.sum_rules.specs.Sun.{row_A, row_B, row_C, row_angle, row_value}
 use Rattle.sun_sums.specs.SunRange.{SmallRay}
 use Rattle.sun_sums.proofs.SunLaws.{above, constant_value, row_angle_small}
 use Rattle.sun_sums.proofs.sun.row_value.Goals as goal
-use Rattle.sun_sums.proofs.sun.row_value.Goals.{After-cosine_in, After-row_angle, Start}
+use Rattle.sun_sums.proofs.sun.row_value.Goals.{After-cosine, After-row_angle, Start}
 
 module _ (s : Start) where
   abbrev row : List ℕ
   row = s.args.row
 
   abbrev small : SmallRay row
-  small = s.requires.1.1
+  small = s.requires.1
 
   abbrev constant : Mirror
   constant = lit (pos 100) ⊗ from_nat {n = row_A row} small.constant tt
@@ -33,11 +33,11 @@ angle_small c =
     subst⁻¹ (λ (a : ℕ). a ≤ full_turn) (angle_is c)
     (row_angle_small c.args.n (row_B (row (goal.at.After-row_angle c).Start)) (row_C (row (goal.at.After-row_angle c).Start)))
 
-abbrev product : After-cosine_in → Mirror
+abbrev product : After-cosine → Mirror
 product c =
-    from_nat {n = row_A (row (goal.at.After-cosine_in c).Start)} ((small (goal.at.After-cosine_in c).Start).moving (above (row_B (row (goal.at.After-cosine_in c).Start)) (row_C (row (goal.at.After-cosine_in c).Start)) c.if-b-c-eq0.false)) tt
-    ⊗ gave c.cosine_in.type_inv (c.cosine_in.ensures ∙ ap cosine ((from_nat (angle_small (goal.at.After-cosine_in c).After-row_angle) tt).same ∙ ap pos (angle_is (goal.at.After-cosine_in c).After-row_angle)))
-    (cosine_most (pos (row_angle c.args.n (row_B (row (goal.at.After-cosine_in c).Start)) (row_C (row (goal.at.After-cosine_in c).Start)))))
+    from_nat {n = row_A (row (goal.at.After-cosine c).Start)} ((small (goal.at.After-cosine c).Start).moving (above (row_B (row (goal.at.After-cosine c).Start)) (row_C (row (goal.at.After-cosine c).Start)) c.if-b-c-eq0.false)) tt
+    ⊗ gave c.cosine.type_inv (c.cosine.ensures ∙ ap cosine ((from_nat (angle_small (goal.at.After-cosine c).After-row_angle) tt).same ∙ ap pos (angle_is (goal.at.After-cosine c).After-row_angle)))
+    (cosine_most (pos (row_angle c.args.n (row_B (row (goal.at.After-cosine c).Start)) (row_C (row (goal.at.After-cosine c).Start)))))
 
 pub overflow_cast-row_angle : goal.overflow_cast-row_angle
 overflow_cast-row_angle c = nat_fits (angle_small (goal.at.overflow_cast-row_angle c).After-row_angle) tt
@@ -47,10 +47,10 @@ returns-then-b-c-eq0 c = (kept (constant (goal.at.returns-then-b-c-eq0 c).Start)
 
 pub returns-else-b-c-eq0 : goal.returns-else-b-c-eq0
 unfolding row_value
-returns-else-b-c-eq0 c = (floor_gave (kept (product (goal.at.returns-else-b-c-eq0 c).After-cosine_in) tt) 10_000_000 c.floor_div.type_inv c.floor_div.ensures).same
+returns-else-b-c-eq0 c = (floor_gave (kept (product (goal.at.returns-else-b-c-eq0 c).After-cosine) tt) 10_000_000 c.floor_div.type_inv c.floor_div.ensures).same
 
 pub overflow_mul-result : goal.overflow_mul-result
 overflow_mul-result c = fits (constant (goal.at.overflow_mul-result c).Start) tt
 
 pub overflow_mul-a : goal.overflow_mul-a
-overflow_mul-a c = fits (product (goal.at.overflow_mul-a c).After-cosine_in) tt
+overflow_mul-a c = fits (product (goal.at.overflow_mul-a c).After-cosine) tt

@@ -14,7 +14,7 @@ is_powers : (c : After-powers_at) → c.powers_at.result ≡ powers c.args.n
 is_powers c = c.powers_at.ensures ∙ ap powers (any c.ranges.n).same
 
 pub sun_at-requires : goal.sun_at-requires
-sun_at-requires c = (c.table.ensures, reached (is_powers (goal.at.sun_at-requires c).After-powers_at) c.requires)
+sun_at-requires c = reached (is_powers (goal.at.sun_at-requires c).After-powers_at) c.requires
 
 pub returns : goal.returns
 returns c =

@@ -8,6 +8,6 @@ returns c = (
   passed c.heliocentric_longitude-longitude.type_inv c.heliocentric_longitude-longitude.ensures,
   (
     passed c.heliocentric_latitude-latitude.type_inv c.heliocentric_latitude-latitude.ensures,
-    (passed c.heliocentric_radius-radius.type_inv c.heliocentric_radius-radius.ensures, sun_near c.args.t.n c.requires.1.near),
+    (passed c.heliocentric_radius-radius.type_inv c.heliocentric_radius-radius.ensures, sun_near c.args.t.n c.requires.near),
   ),
 )
