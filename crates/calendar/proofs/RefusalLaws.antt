@@ -6,14 +6,15 @@ use Prim.Native.Nat.{◌<◌, suc, ℕ}
 use native.Mathlib.Omega.{arith}
 use lib.Dec.{eqb, lit<, ltb}
 use borrow.Author.Tests.{eqb-false, eqb-true, ne_eqb}
-use Rattle.calendar.specs.Refusal.{OneAnswer, VerdictsTold, ◌else◌, ◌unless◌, first, number, proposal_number, strip_number}
+use Rattle.std.specs.Prelude.{Err, IsErr, IsErrAnd, Ok, Result}
+use Rattle.std.proofs.lemmas.Result.{err_from_is_err_and}
+use Rattle.calendar.specs.Refusal.{OneAnswer, Verdict, VerdictsTold, ◌else◌, ◌unless◌, first, number, proposal_number, strip_number, verdict_number}
 use Rattle.calendar.specs.declared.refusal.ProposalRefusal.{ProposalRefusal}
 use Rattle.calendar.specs.declared.refusal.ProposalRefusal.TheVariants as Proposals
 use Rattle.calendar.specs.declared.refusal.Refusal.{Refusal}
 use Rattle.calendar.specs.declared.refusal.Refusal.TheVariants as Of
 use Rattle.calendar.specs.declared.refusal.StripRefusal.{StripRefusal}
 use Rattle.calendar.specs.declared.refusal.StripRefusal.TheVariants as Strips
-use Rattle.calendar.specs.declared.refusal.Verdict.TheVariants as Says
 
 -- what is told apart by its numbers is one answer
 pub one_answer : {A B : Type 0} {numbers : A → B} → ((x y : A) → numbers x ≡ numbers y → x ≡ y) → {answer : A} {rule : B} → numbers answer ≡ rule → OneAnswer numbers rule answer
@@ -115,11 +116,18 @@ number_above (Of.Proposal refusal) = omega (arith, proposal_above refusal)
 pub never_none : (refusal : Refusal) → number refusal ≡ 0 → ⊥
 never_none refusal e = omega (arith, number_above refusal)
 
+-- what is told of a result: an answer that is not refused has the number 0, and its value is read back; a refusal has its own
+pub result_tells : {A B : Type 0} (numbers : Result A Refusal → B) (refusal : B → ℕ) →
+    ((x : A) → refusal (numbers (Ok x)) ≡ 0) → ((x : Refusal) → refusal (numbers (Err x)) ≡ number x) →
+    ((x y : A) → numbers (Ok x) ≡ numbers (Ok y) → x ≡ y) →
+    (x y : Result A Refusal) → numbers x ≡ numbers y → x ≡ y
+result_tells numbers refusal none refused tells (Ok x) (Ok y) same = ap Ok (tells x y same)
+result_tells numbers refusal none refused tells (Ok x) (Err y) same = absurd (never_none y (sym (refused y) ∙ ap refusal (sym same) ∙ none x))
+result_tells numbers refusal none refused tells (Err x) (Ok y) same = absurd (never_none x (sym (refused x) ∙ ap refusal same ∙ none y))
+result_tells numbers refusal none refused tells (Err x) (Err y) same = ap Err (number_tells x y (sym (refused x) ∙ ap refusal same ∙ refused y))
+
 pub verdicts_told : VerdictsTold
-verdicts_told Says.Passed Says.Passed same = refl
-verdicts_told Says.Passed (Says.Refused refusal) same = absurd (never_none refusal (sym same))
-verdicts_told (Says.Refused refusal) Says.Passed same = absurd (never_none refusal same)
-verdicts_told (Says.Refused x) (Says.Refused y) same = ap Says.Refused (number_tells x y same)
+verdicts_told = result_tells verdict_number (λ n. n) (λ x. refl) (λ x. refl) (λ x y same. refl)
 
 -- a number that is read as another's is none of them
 unread : (n : ℕ) → (number (numbered n) ≡ n → ⊥) → (refusal : Refusal) → number refusal ≡ n → ⊥
@@ -193,3 +201,36 @@ module _ (xs ys : List ℕ) where
 
   pub refused_first : {n : ℕ} → first xs ≡ n → (n ≡ 0 → ⊥) → first (xs ++ ys) ≡ n
   refused_first {n} e refuses = first_append xs ys ∙ ap (λ (m : ℕ). m else first ys) e ∙ simp (ne_eqb n 0 refuses)
+
+-- ---- a list of checks with a `?` behind each: where one refuses its refusal is handed up, and where it passes the next is made
+-- what the exit of a `?` hands up
+abbrev pub HandsUp : {A : Type 0} → Result A Refusal → Refusal → Type 0
+HandsUp r refusal = IsErr r × IsErrAnd r (λ other. other ≡ refusal)
+
+pub handed_up : {A : Type 0} {r : Result A Refusal} {refusal : Refusal} → HandsUp r refusal → r ≡ Err refusal
+handed_up {r = r} h = let p = err_from_is_err_and r h.1 in p.1 ∙ ap Err p.2
+
+pub exit : (r : Verdict) (refusal : Refusal) {m : ℕ} → HandsUp r refusal → number refusal ≡ m → verdict_number r ≡ m
+exit r refusal h e = ap verdict_number (handed_up h) ∙ e
+
+-- one check refused
+pub refused : {v : Verdict} {refusal : Refusal} {n : ℕ} (rest : List ℕ) → v ≡ Err refusal → verdict_number v ≡ n → number refusal ≡ first (n ∷ rest)
+unfolding first
+refused {refusal = refusal} {n = n} rest is e =
+    let same : number refusal ≡ n = ap verdict_number (sym is) ∙ e in
+    same ∙ sym (ap (λ (b : Bool). cond b (first rest) n) (ne_eqb n 0 (λ none. never_none refusal (same ∙ none))))
+
+-- one of several checks refused
+pub refused_among : {v : Verdict} {refusal : Refusal} (xs ys : List ℕ) → v ≡ Err refusal → verdict_number v ≡ first xs → number refusal ≡ first (xs ++ ys)
+refused_among {refusal = refusal} xs ys is e = sym (refused_first xs ys (sym e ∙ ap verdict_number is) (never_none refusal))
+
+-- one check passed
+pub passed : {v : Verdict} {n m : ℕ} (rest : List ℕ) → v ≡ Ok tt → verdict_number v ≡ n → m ≡ first rest → m ≡ first (n ∷ rest)
+unfolding first
+passed {n = n} rest is e next =
+    let none : n ≡ 0 = sym e ∙ ap verdict_number is in
+    next ∙ ap (λ (k : ℕ). cond (eqb k 0) (first rest) n) (sym none)
+
+-- several checks passed
+pub passed_all : {v : Verdict} {m : ℕ} (xs ys : List ℕ) → v ≡ Ok tt → verdict_number v ≡ first xs → m ≡ first ys → m ≡ first (xs ++ ys)
+passed_all xs ys is e next = next ∙ sym (passed_first xs ys (sym e ∙ ap verdict_number is))

@@ -1,13 +1,11 @@
 -- Numbered refusals (01, "A request and its numbered refusals"; 02, Items 6, 7 and 9): 0 stands for none.
-use Rattle.std.specs.Prelude.{Bool, cond, List, [], ◌∷◌, ◌≡◌, ℕ, eqb}
+use Rattle.std.specs.Prelude.{Bool, cond, List, [], ◌∷◌, ◌≡◌, ℕ, eqb, Result, Ok, Err, ⊤}
 use Rattle.calendar.specs.declared.refusal.ProposalRefusal.{ProposalRefusal}
 use Rattle.calendar.specs.declared.refusal.ProposalRefusal.TheVariants as Proposals
 use Rattle.calendar.specs.declared.refusal.Refusal.{Refusal}
 use Rattle.calendar.specs.declared.refusal.Refusal.TheVariants as Of
 use Rattle.calendar.specs.declared.refusal.StripRefusal.{StripRefusal}
 use Rattle.calendar.specs.declared.refusal.StripRefusal.TheVariants as Strips
-use Rattle.calendar.specs.declared.refusal.Verdict.{Verdict}
-use Rattle.calendar.specs.declared.refusal.Verdict.TheVariants as Says
 
 -- the refusals of a day strip
 abbrev pub strip_number : StripRefusal → ℕ
@@ -47,9 +45,13 @@ number Of.NotALine = 16
 number (Of.Strip refusal) = strip_number refusal
 number (Of.Proposal refusal) = proposal_number refusal
 
+-- what a check says: passed, or the refusal
+abbrev pub Verdict : Type 0
+Verdict = Result ⊤ Refusal
+
 abbrev pub verdict_number : Verdict → ℕ
-verdict_number Says.Passed = 0
-verdict_number (Says.Refused refusal) = number refusal
+verdict_number (Ok _) = 0
+verdict_number (Err refusal) = number refusal
 
 -- one verdict and no other has a number, so that an equation with it nails the verdict
 abbrev pub VerdictsTold : Type 0

@@ -6,13 +6,6 @@ ghost use Rattle.calendar.specs.Refusal.{OneAnswer};
 
 use super::refusal::Refusal;
 
-// Days from 2000-01-01, or the first refusal that applies.
-#[derive(Clone, Copy)]
-pub enum DayCount {
-    Days(i64),
-    Refused(Refusal),
-}
-
 fn is_leap(y: u64) -> bool
     ensures { result ≡ leap y }
 {
@@ -62,32 +55,32 @@ fn days_to_month(y: u64, m: u64) -> u64
 // The first year that is counted.
 const FIRST_YEAR: i64 = 1900;
 
-// For any numbers whatever: the day count, or the first refusal that applies, year (1), month (2) or day (3).
-pub fn day_count(year: i64, month: i64, day: i64) -> DayCount
+// For any numbers whatever: days from 2000-01-01, or the first refusal that applies, year (1), month (2) or day (3).
+pub fn day_count(year: i64, month: i64, day: i64) -> Result<i64, Refusal>
     ensures { OneAnswer count_answer (day_count year month day) result }
 {
     if year < FIRST_YEAR {
-        return DayCount::Refused(Refusal::Year);
+        return Err(Refusal::Year);
     }
     if 2100 < year {
-        return DayCount::Refused(Refusal::Year);
+        return Err(Refusal::Year);
     }
     if month < 1 {
-        return DayCount::Refused(Refusal::Month);
+        return Err(Refusal::Month);
     }
     if 12 < month {
-        return DayCount::Refused(Refusal::Month);
+        return Err(Refusal::Month);
     }
     let y = year as u64;
     let m = month as u64;
     if day < 1 {
-        return DayCount::Refused(Refusal::Day);
+        return Err(Refusal::Day);
     }
     let d = day as u64;
     if month_length(y, m) < d {
-        return DayCount::Refused(Refusal::Day);
+        return Err(Refusal::Day);
     }
     let n = days_to_year(y) + days_to_month(y, m) + d;
     let days = n as i64 - 730_486;
-    DayCount::Days(days)
+    Ok(days)
 }

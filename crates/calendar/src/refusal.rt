@@ -1,6 +1,7 @@
 // The papers' refusals, a case for each number, so that no other number can be given.
 ghost use Rattle.std.specs.Prelude.{◌≡◌};
-ghost use Rattle.calendar.specs.Refusal.{number, proposal_number, strip_number, verdict_number, ◌unless◌, ◌else◌};
+ghost use Rattle.calendar.specs.Refusal.{number, proposal_number, strip_number, verdict_number, ◌unless◌};
+ghost use Rattle.calendar.specs.declared.refusal.Refusal.TheVariants.{Strip, Proposal};
 
 // Of a day strip: 02's, from 20 on.
 #[derive(Clone, Copy)]
@@ -46,81 +47,84 @@ pub enum Refusal {
     Proposal(ProposalRefusal),
 }
 
-// What a check says.
-#[derive(Clone, Copy)]
-pub enum Verdict {
-    Passed,
-    Refused(Refusal),
-}
-
-fn strip_number(refusal: StripRefusal) -> u32
-    ensures { result ≡ strip_number refusal }
-{
-    match refusal {
-        StripRefusal::Length => 20,
-        StripRefusal::Version => 21,
-        StripRefusal::AirOrBody => 22,
-        StripRefusal::Date => 23,
-        StripRefusal::Point => 24,
-        StripRefusal::Step => 25,
-        StripRefusal::Azimuth => 26,
-        StripRefusal::NotFound => 27,
-        StripRefusal::Buffer => 28,
-        StripRefusal::MeasuredAir => 32,
+impl StripRefusal {
+    // The paper's number.
+    pub fn number(self) -> u32
+        ensures { result ≡ strip_number self }
+    {
+        match self {
+            StripRefusal::Length => 20,
+            StripRefusal::Version => 21,
+            StripRefusal::AirOrBody => 22,
+            StripRefusal::Date => 23,
+            StripRefusal::Point => 24,
+            StripRefusal::Step => 25,
+            StripRefusal::Azimuth => 26,
+            StripRefusal::NotFound => 27,
+            StripRefusal::Buffer => 28,
+            StripRefusal::MeasuredAir => 32,
+        }
     }
 }
 
-fn proposal_number(refusal: ProposalRefusal) -> u32
-    ensures { result ≡ proposal_number refusal }
-{
-    match refusal {
-        ProposalRefusal::Points => 29,
-        ProposalRefusal::Opposite => 30,
+impl ProposalRefusal {
+    // The paper's number.
+    pub fn number(self) -> u32
+        ensures { result ≡ proposal_number self }
+    {
+        match self {
+            ProposalRefusal::Points => 29,
+            ProposalRefusal::Opposite => 30,
+        }
     }
 }
 
-// The paper's number.
-pub fn number_of(refusal: Refusal) -> u32
-    ensures { result ≡ number refusal }
-{
-    match refusal {
-        Refusal::Year => 1,
-        Refusal::Month => 2,
-        Refusal::Day => 3,
-        Refusal::Clock => 4,
-        Refusal::Ut1 => 5,
-        Refusal::DeltaT => 6,
-        Refusal::Longitude => 7,
-        Refusal::Latitude => 8,
-        Refusal::Height => 9,
-        Refusal::Pressure => 10,
-        Refusal::Temperature => 11,
-        Refusal::ShortBuffer => 12,
-        Refusal::Opposite => 14,
-        Refusal::NotReduced => 15,
-        Refusal::NotALine => 16,
-        Refusal::Strip(of_strip) => strip_number(of_strip),
-        Refusal::Proposal(of_proposal) => proposal_number(of_proposal),
+impl Refusal {
+    // The paper's number.
+    pub fn number(self) -> u32
+        ensures { result ≡ number self }
+    {
+        match self {
+            Refusal::Year => 1,
+            Refusal::Month => 2,
+            Refusal::Day => 3,
+            Refusal::Clock => 4,
+            Refusal::Ut1 => 5,
+            Refusal::DeltaT => 6,
+            Refusal::Longitude => 7,
+            Refusal::Latitude => 8,
+            Refusal::Height => 9,
+            Refusal::Pressure => 10,
+            Refusal::Temperature => 11,
+            Refusal::ShortBuffer => 12,
+            Refusal::Opposite => 14,
+            Refusal::NotReduced => 15,
+            Refusal::NotALine => 16,
+            Refusal::Strip(of_strip) => of_strip.number(),
+            Refusal::Proposal(of_proposal) => of_proposal.number(),
+        }
+    }
+}
+
+impl From<StripRefusal> for Refusal {
+    ghost from_gives = { λ of_strip refusal. refusal ≡ Strip of_strip };
+
+    fn from(of_strip: StripRefusal) -> Self {
+        Self::Strip(of_strip)
+    }
+}
+
+impl From<ProposalRefusal> for Refusal {
+    ghost from_gives = { λ of_proposal refusal. refusal ≡ Proposal of_proposal };
+
+    fn from(of_proposal: ProposalRefusal) -> Self {
+        Self::Proposal(of_proposal)
     }
 }
 
 // The refusal unless the check passes.
-pub fn unless(refusal: Refusal, passes: bool) -> Verdict
+pub fn unless(refusal: Refusal, passes: bool) -> Result<(), Refusal>
     ensures { verdict_number result ≡ number refusal unless passes }
 {
-    if passes {
-        Verdict::Passed
-    } else {
-        Verdict::Refused(refusal)
-    }
-}
-
-// The first verdict where it refuses, otherwise the next.
-pub fn or_else(verdict: Verdict, next: Verdict) -> Verdict
-    ensures { verdict_number result ≡ verdict_number verdict else verdict_number next }
-{
-    match verdict {
-        Verdict::Passed => next,
-        Verdict::Refused(refusal) => Verdict::Refused(refusal),
-    }
+    if passes { Ok(()) } else { Err(refusal) }
 }
