@@ -8,8 +8,8 @@ use native.Mathlib.Numerals.{add-one}
 use native.Mathlib.Omega.{arith}
 use lib.Dec.{ltb}
 use lib.IntN.{negsuc, pos, ℤ}
-use lib.ListN.{drop, get_or, length, length-append, length-drop, take}
-use lib.Seq.{get_or-drop, length-take-le, take_all, take-suc}
+use lib.ListN.{get_or, length, length-append, take}
+use lib.Seq.{length-take-le, take_all, take-suc}
 use borrow.Author.Tests.{le-ltb, lt-ltb, ltb-true}
 use Rattle.text.specs.Line.{all}
 use Rattle.text.proofs.LineLaws.{first_of, second_of}
@@ -116,16 +116,13 @@ number_small (suc width) s l e =
 
 -- ---- a loop that reads
 
-pub none_read : (s : List ℕ) (at : ℕ) → 0 ≡ number (take 0 (drop at s))
+pub none_read : (s : List ℕ) → 0 ≡ number (take 0 s)
 unfolding number_after
-none_read s at = refl
+none_read s = refl
 
-pub one_more_read : (s : List ℕ) (at taken : ℕ) → at + taken < length s
-    → number (take taken (drop at s)) * 256 + get_or s (at + taken) 0 ≡ number (take (taken + 1) (drop at s))
-one_more_read s at taken h =
-    ap (λ (octet : ℕ). number (take taken (drop at s)) * 256 + octet) (sym (get_or-drop at s taken 0))
-    ∙ sym (number_snoc 0 (take taken (drop at s)) (get_or (drop at s) taken 0))
-    ∙ ap number (sym (ap (λ (n : ℕ). take n (drop at s)) (add-one taken) ∙ take-suc (drop at s) taken 0 (simp length-drop (omega arith))))
+pub one_more_read : (s : List ℕ) (taken : ℕ) → taken < length s → number (take taken s) * 256 + get_or s taken 0 ≡ number (take (taken + 1) s)
+one_more_read s taken h =
+    sym (number_snoc 0 (take taken s) (get_or s taken 0)) ∙ ap number (sym (ap (λ (n : ℕ). take n s) (add-one taken) ∙ take-suc s taken 0 h))
 
 -- ---- two's complement
 

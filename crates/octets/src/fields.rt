@@ -11,11 +11,9 @@ pub fn read_fields(octets: &[u8], widths: &[usize], numbers: &mut [u32])
     ensures { numbers.new ≡ parted widths.now octets.now }
 {
     let mut at = 0;
-    let mut field = 0;
-    while field < widths.len() {
-        numbers[field] = number_at(octets, at, widths[field]);
-        at += widths[field];
-        field += 1;
+    for (field, width) in widths.iter().enumerate() {
+        numbers[field] = number_at(octets, at, *width);
+        at += *width;
     }
 }
 
@@ -25,10 +23,8 @@ pub fn put_fields(out: &mut [u8], at: usize, widths: &[usize], numbers: &[u32]) 
     ensures { Put out.old at (joined widths.now numbers.now) out.new result }
 {
     let mut next = at;
-    let mut field = 0;
-    while field < widths.len() {
-        next = put_number(out, next, widths[field], numbers[field]);
-        field += 1;
+    for (field, width) in widths.iter().enumerate() {
+        next = put_number(out, next, *width, numbers[field]);
     }
     next
 }
@@ -39,10 +35,8 @@ pub fn put_alike(out: &mut [u8], at: usize, width: usize, numbers: &[u32]) -> us
     ensures { Put out.old at (joined (alike (length numbers.now) width) numbers.now) out.new result }
 {
     let mut next = at;
-    let mut field = 0;
-    while field < numbers.len() {
-        next = put_number(out, next, width, numbers[field]);
-        field += 1;
+    for number in numbers {
+        next = put_number(out, next, width, *number);
     }
     next
 }

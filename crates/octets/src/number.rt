@@ -9,10 +9,8 @@ pub fn number_at(octets: &[u8], at: usize, width: usize) -> u32
     ensures { result ≡ number (take width (drop at octets.now)) }
 {
     let mut value = 0;
-    let mut taken = 0;
-    while taken < width {
-        value = value * 256 + octets[at + taken] as u32;
-        taken += 1;
+    for octet in &octets[at..at + width] {
+        value = value * 256 + u32::from(*octet);
     }
     value
 }
@@ -23,11 +21,9 @@ pub fn put_number(out: &mut [u8], at: usize, width: usize, number: u32) -> usize
     ensures { Put out.old at (big_endian width number) out.new result }
 {
     let mut rest = number;
-    let mut left = width;
-    while 0 < left {
-        left -= 1;
-        out[at + left] = (rest % 256) as u8;
-        rest = rest / 256;
+    for place in (at..at + width).rev() {
+        out[place] = (rest % 256) as u8;
+        rest /= 256;
     }
     at + width
 }

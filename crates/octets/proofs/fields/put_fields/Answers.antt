@@ -25,27 +25,25 @@ module _ (c : In-loop-field) where
 
 pub loop-field-init : goal.loop-field-init
 unfolding joined
-loop-field-init c = let a = c.args in (omega arith, put_none a.out.now a.at)
+loop-field-init c = put_none c.args.out.now c.args.at
 
 pub put_number-next-requires : goal.put_number-next-requires
 put_number-next-requires c =
     let k = (goal.at.put_number-next-requires c).In-loop-field in
     let a = (s k).args in
-    field_room a.widths.now a.numbers.now (field k) (within k) (s k).requires.1 _ refl k.loop-field.invariant.1 (s k).requires.0
+    field_room a.widths.now a.numbers.now (field k) (within k) (s k).requires.1 _ refl k.loop-field.invariant (s k).requires.0
 
 pub loop-field-preserved : goal.loop-field-preserved
 loop-field-preserved c =
     let k = (goal.at.loop-field-preserved c).In-loop-field in
-    let a = (s k).args in (
-      omega (arith, (s k).requires.1, within k),
-      put_field a.widths.now a.numbers.now (field k) (within k) (s k).requires.1 _ refl k.loop-field.invariant.1 c.put_number-next.ensures,
-    )
+    let a = (s k).args in
+    put_field a.widths.now a.numbers.now (field k) (within k) (s k).requires.1 _ refl k.loop-field.invariant c.put_number-next.ensures
 
 pub shape_of-out : goal.shape_of-out
-shape_of-out c = put_length c.loop-field.invariant.1
+shape_of-out c = put_length c.loop-field.invariant
 
 pub returns : goal.returns
 returns c =
     let end : length c.args.numbers.now ≤ c.loop-field.field = omega (arith, c.loop-field-test.false) in
     subst (λ (o : List ℕ). Put c.args.out.now c.args.at o c.loop-field.out c.loop-field.next)
-    (λ i. joined (take_all c.loop-field.field c.args.widths.now (omega (arith, c.requires.1, end)) i) (take_all c.loop-field.field c.args.numbers.now end i)) c.loop-field.invariant.1
+    (λ i. joined (take_all c.loop-field.field c.args.widths.now (omega (arith, c.requires.1, end)) i) (take_all c.loop-field.field c.args.numbers.now end i)) c.loop-field.invariant

@@ -29,41 +29,40 @@ module _ (octets widths numbers : List ℕ) (field : ℕ) (h : field < length wi
 
 pub loop-field-init : goal.loop-field-init
 unfolding total parted
-loop-field-init c = (omega arith, c.requires.1.1, refl, refl)
+loop-field-init c = (c.requires.1.1, refl, refl)
 
 pub number_at-requires : goal.number_at-requires
 number_at-requires c =
     let a = c.args in (
-      omega (arith, c.loop-field.invariant.2, room a.octets.now a.widths.now c.loop-field.numbers c.loop-field.field c.loop-field-test.true c.loop-field.invariant.1 c.requires.0),
+      omega (arith, c.loop-field.invariant.1, room a.octets.now a.widths.now c.loop-field.numbers c.loop-field.field c.loop-field-test.true c.loop-field.invariant.0 c.requires.0),
       narrow_at a.widths.now c.requires.1.0 c.loop-field.field,
     )
 
 pub bounds-numbers-field : goal.bounds-numbers-field
-bounds-numbers-field c = omega (arith, c.loop-field.invariant.1, c.loop-field-test.true)
+bounds-numbers-field c = omega (arith, c.loop-field.invariant.0, c.loop-field-test.true)
 
 pub overflow_add-at : goal.overflow_add-at
 overflow_add-at c =
     let a = c.args in
-    omega (arith, c.loop-field.invariant.2, room a.octets.now a.widths.now c.loop-field.numbers c.loop-field.field c.loop-field-test.true c.loop-field.invariant.1 c.requires.0, c.well_formed)
+    omega (arith, c.loop-field.invariant.1, room a.octets.now a.widths.now c.loop-field.numbers c.loop-field.field c.loop-field-test.true c.loop-field.invariant.0 c.requires.0, c.well_formed)
 
 pub loop-field-preserved : goal.loop-field-preserved
 loop-field-preserved c =
     let a = c.args in
     let here : c.loop-field.field < length a.widths.now = c.loop-field-test.true in (
-      omega arith,
-      length-set c.loop-field.numbers c.loop-field.field c.number_at.result ∙ c.loop-field.invariant.1,
-      ap (λ (n : ℕ). n + get_or a.widths.now c.loop-field.field 0) c.loop-field.invariant.2 ∙ place_next a.octets.now a.widths.now c.loop-field.numbers c.loop-field.field here c.loop-field.invariant.1,
-      one_more a.octets.now a.widths.now c.loop-field.numbers c.loop-field.field here c.loop-field.invariant.1 c.loop-field.at c.number_at.result
-          c.loop-field.invariant.3 c.loop-field.invariant.2 c.number_at.ensures,
+      length-set c.loop-field.numbers c.loop-field.field c.number_at.result ∙ c.loop-field.invariant.0,
+      ap (λ (n : ℕ). n + get_or a.widths.now c.loop-field.field 0) c.loop-field.invariant.1 ∙ place_next a.octets.now a.widths.now c.loop-field.numbers c.loop-field.field here c.loop-field.invariant.0,
+      one_more a.octets.now a.widths.now c.loop-field.numbers c.loop-field.field here c.loop-field.invariant.0 c.loop-field.at c.number_at.result
+          c.loop-field.invariant.2 c.loop-field.invariant.1 c.number_at.ensures,
     )
 
 pub shape_of-numbers : goal.shape_of-numbers
-shape_of-numbers c = c.loop-field.invariant.1 ∙ sym c.requires.1.1
+shape_of-numbers c = c.loop-field.invariant.0 ∙ sym c.requires.1.1
 
 pub returns : goal.returns
 returns c =
     let a = c.args in
     let end : length a.widths.now ≤ c.loop-field.field = omega (arith, c.loop-field-test.false) in
-    sym (take_all c.loop-field.field c.loop-field.numbers (omega (arith, c.loop-field.invariant.1, end)))
-    ∙ c.loop-field.invariant.3
+    sym (take_all c.loop-field.field c.loop-field.numbers (omega (arith, c.loop-field.invariant.0, end)))
+    ∙ c.loop-field.invariant.2
     ∙ ap (λ (w : List ℕ). parted w a.octets.now) (take_all c.loop-field.field a.widths.now end)
