@@ -40,11 +40,9 @@ fn pairs_of(x: u64) -> [u64; PAIRS]
 {
     let mut marked: [u64; PAIRS] = [0; PAIRS];
     let mut front = x;
-    let mut k: usize = PAIRS;
-    while k > 0 {
-        k -= 1;
+    for k in (0..PAIRS).rev() {
         marked[k] = front % 100;
-        front = front / 100;
+        front /= 100;
     }
     marked
 }
@@ -55,7 +53,7 @@ fn greatest_digit(twentyfold: u64, rest: u64) -> u64
     ensures { Greatest (taking twentyfold) rest result }
 {
     let guess = rest / (twentyfold + 1);
-    let mut digit = if guess < 9 { guess } else { 9 };
+    let mut digit = guess.min(9);
     while (twentyfold + digit) * digit > rest {
         digit -= 1;
     }
@@ -82,15 +80,13 @@ fn next_digit(before: SoFar, pair: u64) -> SoFar
 pub fn root(x: u64) -> u64
     ensures { result ≡ root x }
 {
-    let marked = pairs_of(x);
     let mut so_far = SoFar {
         root: 0,
         remainder: 0,
     };
-    let mut k: usize = 0;
-    while k < PAIRS {
-        so_far = next_digit(so_far, marked[k]);
-        k += 1;
+    let marked = pairs_of(x);
+    for pair in marked {
+        so_far = next_digit(so_far, pair);
     }
     so_far.root
 }

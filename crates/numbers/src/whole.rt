@@ -8,13 +8,7 @@ ghost use Rattle.numbers.specs.Whole.{sign, MulDiv, between};
 pub fn sign_of(z: i64) -> i64
     ensures { result ≡ sign z }
 {
-    if z > 0 {
-        1
-    } else if z < 0 {
-        -1
-    } else {
-        0
-    }
+    z.signum()
 }
 
 // n for n, and n for -1 - n: what a floor divides on either side of zero.
@@ -28,11 +22,7 @@ fn magnitude(a: i64) -> u64
 pub fn absolute(a: i64) -> u64
     ensures { result ≡ nat_abs a }
 {
-    if a < 0 {
-        magnitude(a) + 1
-    } else {
-        magnitude(a)
-    }
+    a.unsigned_abs()
 }
 
 // ⌊a / d⌋, also below zero.
@@ -69,11 +59,9 @@ pub fn mul_div(c: i64, n: i64, d: u64) -> i64
 }
 
 // lo to hi, both included.
+#[tactic(auto, unfolding(crate::specs::Whole::between))]
 pub fn is_between(lo: i64, x: i64, hi: i64) -> bool
     ensures { result ≡ between lo x hi }
 {
-    if x < lo {
-        return false;
-    }
-    x <= hi
+    lo <= x && x <= hi
 }
