@@ -3,8 +3,7 @@ use Rattle.std.specs.Prelude.{cond, ◌*ℤ◌, ◌+ℤ◌, ◌-ℤ◌, nat_abs,
 use Rattle.std.specs.Int.Signed.{le_z, lt_z}
 use Rattle.number_rules.specs.Angle.{full_turn, half_turn, quarter_turn}
 use Rattle.arctangent.specs.Arctangent.{arctangent}
-use Rattle.arctangent.specs.Direction.{angle_or}
-use Rattle.arctangent.specs.declared.direction.Direction.{Direction}
+use Rattle.arctangent.specs.Direction.{Direction, angle_or}
 use Rattle.numbers.specs.Root.{root}
 use Rattle.numbers.specs.declared.sine.SineCosine.{SineCosine}
 use Rattle.sum_rules.specs.Instant.{minus}

@@ -1,8 +1,7 @@
 -- Where the runner stands (01, "From the centre to the runner": Observer).
-use Rattle.std.specs.Prelude.{◌≡◌, ℕ, ◌*ℤ◌, ◌+ℤ◌, ◌-ℤ◌, pos, ℤ}
+use Rattle.std.specs.Prelude.{◌≡◌, ℕ, ◌*ℤ◌, ◌+ℤ◌, ◌-ℤ◌, pos, Some, ℤ}
 use Rattle.arithmetic.specs.Floor.{⌊◌÷◌⌋}
 use Rattle.arctangent.specs.Arctangent.{angle_of, arctangent}
-use Rattle.arctangent.specs.declared.direction.Direction.TheVariants.{Towards}
 use Rattle.number_rules.specs.Sine.{cosine, sine}
 use Rattle.numbers.specs.SineCosine.{sine_cosine}
 use Rattle.numbers.specs.declared.sine.SineCosine.{SineCosine}
@@ -27,7 +26,7 @@ flattened φ = angle_of (polar_sine φ) φ.cosine
 
 -- THE CLAIM, for every latitude: the arctangent never says "no direction" there
 abbrev pub EveryLatitudeDirected : Type 0
-EveryLatitudeDirected = (x : ℤ) → let φ = sine_cosine x in arctangent (polar_sine φ) φ.cosine ≡ Towards (record { units = flattened φ })
+EveryLatitudeDirected = (x : ℤ) → let φ = sine_cosine x in arctangent (polar_sine φ) φ.cosine ≡ Some (record { units = flattened φ })
 
 -- f = cos w + floor(H cosφ/6,378,140); g = floor(99,664,719 sin w/10⁸) + floor(H sinφ/6,378,140)
 unfoldable pub observer : SineCosine → ℤ → Observer

@@ -1,6 +1,5 @@
 // Where the Sun and the Moon stand, seen from the Earth's centre.
 ghost use Rattle.std.specs.Prelude.{◌≡◌};
-ghost use Rattle.number_rules.specs.SineTable.{sines};
 ghost use Rattle.sum_rules.specs.Instant.{Reached};
 ghost use Rattle.sum_rules.specs.Nutation.{Δψ};
 ghost use Rattle.sky_vectors.specs.Geocentric.{moon_geocentric, sun_geocentric, geocentric};
@@ -28,11 +27,11 @@ pub struct Geocentric {
 }
 
 // The Moon's, of TT.
-fn moon_geocentric(table: &[u32; 361], tt: Powers, nutation: i64) -> Geocentric
-    requires { (table.now ≡ sines) × (Reached tt × (nutation ≡ Δψ tt.n)) }
+fn moon_geocentric(tt: Powers, nutation: i64) -> Geocentric
+    requires { Reached tt × (nutation ≡ Δψ tt.n) }
     ensures { result ≡ moon_geocentric tt.n }
 {
-    let moon = moon_at(table, tt);
+    let moon = moon_at(tt);
     let longitude = moon.longitude as i64 + nutation;
     let latitude = moon.latitude;
     let distance = moon.metres;
@@ -46,11 +45,11 @@ fn moon_geocentric(table: &[u32; 361], tt: Powers, nutation: i64) -> Geocentric
 }
 
 // The Sun's: opposite to the Earth as the Sun sees it, and aberrated.
-fn sun_geocentric(table: &[u32; 361], tt: Powers, nutation: i64) -> Geocentric
-    requires { (table.now ≡ sines) × (Reached tt × (nutation ≡ Δψ tt.n)) }
+fn sun_geocentric(tt: Powers, nutation: i64) -> Geocentric
+    requires { Reached tt × (nutation ≡ Δψ tt.n) }
     ensures { result ≡ sun_geocentric tt.n }
 {
-    let earth = sun_at(table, tt);
+    let earth = sun_at(tt);
     let degrees = longitude_degrees(earth.longitude);
     let latitude = -latitude_degrees(earth.latitude);
     let distance = earth.radius;
@@ -66,12 +65,12 @@ fn sun_geocentric(table: &[u32; 361], tt: Powers, nutation: i64) -> Geocentric
     }
 }
 
-pub fn geocentric_at(table: &[u32; 361], body: Body, tt: Powers, nutation: i64) -> Geocentric
-    requires { (table.now ≡ sines) × (Reached tt × (nutation ≡ Δψ tt.n)) }
+pub fn geocentric_at(body: Body, tt: Powers, nutation: i64) -> Geocentric
+    requires { Reached tt × (nutation ≡ Δψ tt.n) }
     ensures { result ≡ geocentric body tt.n }
 {
     match body {
-        Body::Sun => sun_geocentric(table, tt, nutation),
-        Body::Moon => moon_geocentric(table, tt, nutation),
+        Body::Sun => sun_geocentric(tt, nutation),
+        Body::Moon => moon_geocentric(tt, nutation),
     }
 }

@@ -7,7 +7,7 @@ ghost use Rattle.sky_vectors.specs.SkyRange.{SmallVector, SmallHorizon, vector_l
 
 use super::rotation::rotated;
 use super::vector::Vector;
-use arctangent::direction::{Direction, angle_or, arctangent};
+use arctangent::direction::{angle_or, arctangent};
 use numbers::angle::Angle;
 use numbers::root::root;
 use numbers::sine::SineCosine;
@@ -37,7 +37,7 @@ pub fn horizon_at(latitude: SineCosine, vector: Vector) -> Horizon
 }
 
 // Straight overhead and straight underfoot it has none.
-pub fn azimuth(seen: Horizon) -> Direction
+pub fn azimuth(seen: Horizon) -> Option<Angle>
     ensures { result ≡ azimuth seen }
 {
     let north = seen.north;

@@ -1,13 +1,12 @@
 // Where the runner stands on the flattened Earth.
 ghost use Rattle.std.specs.Prelude.{◌≡◌, ◌≤◌, nat_abs};
-ghost use Rattle.number_rules.specs.SineTable.{sines};
 ghost use Rattle.sky_vectors.specs.Observer.{observer, shifted};
 ghost use Rattle.numbers.specs.SineCosine.{OneAngle};
 ghost use Rattle.sky_vectors.specs.SkyRange.{SmallVector, SmallObserver, highest_height, parallax_limit, vector_limit};
 
 use super::vector::Vector;
 use arctangent::direction::angle_of;
-use numbers::sine::{SineCosine, sine_cosine_in};
+use numbers::sine::{SineCosine, sine_cosine};
 use numbers::whole::floor_div;
 
 // The Earth's radius at the equator, in metres.
@@ -24,15 +23,15 @@ pub struct Observer {
 }
 
 // At a latitude, and at a height in metres. The two numbers of w are never both zero, so that it has a direction.
-pub fn observer_at(table: &[u32; 361], latitude: SineCosine, height: i64) -> Observer
-    requires { (table.now ≡ sines) × OneAngle latitude × (nat_abs height ≤ highest_height) }
+pub fn observer_at(latitude: SineCosine, height: i64) -> Observer
+    requires { OneAngle latitude × (nat_abs height ≤ highest_height) }
     ensures { result ≡ observer latitude height }
 {
     let sine = latitude.sine;
     let cosine = latitude.cosine;
     let flattened = floor_div(POLAR * sine, 100_000_000);
     let angle = angle_of(flattened, cosine).units;
-    let w = sine_cosine_in(table, angle as i64);
+    let w = sine_cosine(angle as i64);
     let sine_w = w.sine;
     let cosine_w = w.cosine;
     let f = cosine_w + floor_div(height * cosine, RADIUS);

@@ -1,7 +1,6 @@
 // How the sky is turned at a runner's longitude, and what else the bodies have in common at an instant.
 ghost use Rattle.std.specs.Prelude.{◌≡◌, ◌≤◌, nat_abs};
 ghost use Rattle.number_rules.specs.Angle.{half_turn};
-ghost use Rattle.number_rules.specs.SineTable.{sines};
 ghost use Rattle.sum_rules.specs.Instant.{Reached};
 ghost use Rattle.sum_rules.specs.Nutation.{Δψ, Δε};
 ghost use Rattle.sky_vectors.specs.Orientation.{orientation, moment};
@@ -20,19 +19,13 @@ pub struct Orientation {
 }
 
 // The Earth turns by UT and nods by TT.
-pub fn orientation_at(
-    table: &[u32; 361],
-    longitude: i64,
-    ut: Powers,
-    tt: Powers,
-    nutation: Nutation,
-) -> Orientation
-    requires table_value { (table.now ≡ sines) × (nat_abs longitude ≤ half_turn) }
+pub fn orientation_at(longitude: i64, ut: Powers, tt: Powers, nutation: Nutation) -> Orientation
+    requires within { nat_abs longitude ≤ half_turn }
     requires reached { (Reached ut × Reached tt) × ((nutation.longitude ≡ Δψ tt.n) × (nutation.obliquity ≡ Δε tt.n)) }
     ensures { result ≡ orientation longitude ut.n tt.n }
 {
     let obliquity = obliquity_at(tt, nutation.obliquity);
-    let greenwich = apparent_at(table, ut, nutation.longitude, obliquity);
+    let greenwich = apparent_at(ut, nutation.longitude, obliquity);
     let sidereal = greenwich + longitude;
     Orientation {
         sidereal,
@@ -49,15 +42,15 @@ pub struct Moment {
 }
 
 // At an instant, for a runner at a longitude.
-pub fn moment_at(table: &[u32; 361], longitude: i64, instant: Instant) -> Moment
-    requires { (table.now ≡ sines) × ((nat_abs longitude ≤ half_turn) × Reachable instant) }
+pub fn moment_at(longitude: i64, instant: Instant) -> Moment
+    requires { (nat_abs longitude ≤ half_turn) × Reachable instant }
     ensures { result ≡ moment longitude instant }
 {
     let ut = powers_at(instant.ut);
     let tt = powers_at(instant.tt);
-    let nutation = nutation_at(table, tt);
+    let nutation = nutation_at(tt);
     let in_longitude = nutation.longitude;
-    let orientation = orientation_at(table, longitude, ut, tt, nutation);
+    let orientation = orientation_at(longitude, ut, tt, nutation);
     Moment {
         tt,
         nutation: in_longitude,

@@ -30,13 +30,13 @@ module _ (c : After-moon_at-moon) where
   n = s.args.tt.n
 
   near : nat_abs n ≤ furthest
-  near = s.requires.1.0.near
+  near = s.requires.0.near
 
   longitude_small : c.moon_at-moon.result.longitude ≤ full_turn
   longitude_small = subst⁻¹ (λ (l : ℕ). l ≤ full_turn) c.moon_at-moon.ensures.0 (moon_longitude_most n)
 
   abbrev nutation : Mirror
-  nutation = arg {m = 2 ^ 26} s.ranges.nutation (subst⁻¹ (λ (z : ℤ). nat_abs z ≤ 2 ^ 26) s.requires.1.1 (Δψ_most n near))
+  nutation = arg {m = 2 ^ 26} s.ranges.nutation (subst⁻¹ (λ (z : ℤ). nat_abs z ≤ 2 ^ 26) s.requires.1 (Δψ_most n near))
 
   abbrev longitude : Mirror
   longitude = from_nat longitude_small tt ⊕ nutation
@@ -75,7 +75,7 @@ pub returns : goal.returns
 unfolding moon_geocentric
 returns c =
     let k = summed (goal.at.returns c).After-struct_told-2-1 in
-    let l = (kept (longitude k) tt).same ∙ (λ i. pos (k.moon_at-moon.ensures.0 i) +ℤ (s k).requires.1.1 i) in
+    let l = (kept (longitude k) tt).same ∙ (λ i. pos (k.moon_at-moon.ensures.0 i) +ℤ (s k).requires.1 i) in
     let b = to_z-of_z w64 k.moon_at-moon.result.latitude (latitude_fits k) ∙ k.moon_at-moon.ensures.1.0 in
     let p = passed c.floor_div-parallax.type_inv (c.floor_div-parallax.ensures ∙ (λ i. ⌊ pos (radius * 1_000_000_000) ÷ nat_abs (metres_is k i) ⌋)) in
     λ i. record { longitude = l i; latitude = b i; distance = metres_is k i; parallax = p i }

@@ -29,10 +29,10 @@ module _ (c : After-sun_at-earth) where
   n = s.args.tt.n
 
   near : nat_abs n ≤ furthest
-  near = s.requires.1.0.near
+  near = s.requires.0.near
 
   abbrev nutation : Mirror
-  nutation = arg {m = 2 ^ 26} s.ranges.nutation (subst⁻¹ (λ (z : ℤ). nat_abs z ≤ 2 ^ 26) s.requires.1.1 (Δψ_most n near))
+  nutation = arg {m = 2 ^ 26} s.ranges.nutation (subst⁻¹ (λ (z : ℤ). nat_abs z ≤ 2 ^ 26) s.requires.1 (Δψ_most n near))
 
   longitude_fits : SFits w64 c.sun_at-earth.result.longitude
   longitude_fits = search rules
@@ -134,7 +134,7 @@ unfolding sun_geocentric
 returns c =
     let k = summed (goal.at.returns c).After-floor_div-parallax in
     let sum : ℤ → ℤ → ℤ = λ (a r : ℤ). longitude_degrees (Sun.L (n k)) +ℤ pos half_turn +ℤ a +ℤ ⌊ neg_ℤ (pos 5_691_610_000_000_000) ÷ nat_abs r ⌋ in
-    let l = (kept (longitude (goal.at.returns c).After-floor_div-parallax) tt).same ∙ (λ i. sum ((s k).requires.1.1 i) (radius_is k i)) in
+    let l = (kept (longitude (goal.at.returns c).After-floor_div-parallax) tt).same ∙ (λ i. sum ((s k).requires.1 i) (radius_is k i)) in
     let b = (kept (negated (lowered (goal.at.returns c).After-floor_div-parallax)) tt).same in
     let p = passed c.floor_div-parallax.type_inv (c.floor_div-parallax.ensures ∙ (λ i. ⌊ pos 426_350_000_000_000 ÷ nat_abs (radius_is k i) ⌋)) in
     λ i. record { longitude = l i; latitude = b i; distance = radius_is k i; parallax = p i }

@@ -10,20 +10,20 @@ use Rattle.numbers.proofs.SineCosineLaws.{cosine_in, sine_in}
 use Rattle.sky_vectors.proofs.LatitudeLaws.{directed}
 use Rattle.sky_vectors.proofs.SkyMirror.{angle_fits, angle_gave}
 use Rattle.sky_vectors.proofs.observer.observer_at.Goals as goal
-use Rattle.sky_vectors.proofs.observer.observer_at.Goals.{After-angle_of-angle, After-floor_div, After-floor_div-3, After-floor_div-flattened, After-sine_cosine_in-w, After-struct_told-2-1, After-struct_told-4-1, Start}
+use Rattle.sky_vectors.proofs.observer.observer_at.Goals.{After-angle_of-angle, After-floor_div, After-floor_div-3, After-floor_div-flattened, After-sine_cosine-w, After-struct_told-2-1, After-struct_told-4-1, Start}
 
 module _ (k : After-struct_told-2-1) where
   abbrev start : Start
   start = k.before.before
 
   abbrev sine_φ : Mirror
-  sine_φ = sine_in start.requires.1
+  sine_φ = sine_in start.requires.0
 
   abbrev cosine_φ : Mirror
-  cosine_φ = cosine_in start.requires.1
+  cosine_φ = cosine_in start.requires.0
 
   abbrev height : Mirror
-  height = arg start.ranges.height start.requires.2
+  height = arg start.ranges.height start.requires.1
 
   abbrev shrunk : Mirror
   shrunk = lit polar ⊗ sine_φ
@@ -34,20 +34,20 @@ polar_sine k = floor_gave (kept (shrunk k.before) tt) 100_000_000 k.floor_div-fl
 abbrev angle : After-angle_of-angle → Mirror
 angle k = angle_gave (polar_sine k.before) (cosine_φ k.before.before) k.angle_of-angle.ensures
 
-module _ (k : After-sine_cosine_in-w) where
+module _ (k : After-sine_cosine-w) where
   abbrev read : After-struct_told-2-1
   read = k.before.before.before
 
   abbrev w : ℤ
   w = pos (flattened (start read).args.latitude)
 
-  sine_is : k.sine_cosine_in-w.result.sine ≡ sine w
+  sine_is : k.sine_cosine-w.result.sine ≡ sine w
   unfolding flattened
-  sine_is = k.sine_cosine_in-w.ensures.0 ∙ ap sine (angle k.before).same
+  sine_is = k.sine_cosine-w.ensures.0 ∙ ap sine (angle k.before).same
 
-  cosine_is : k.sine_cosine_in-w.result.cosine ≡ cosine w
+  cosine_is : k.sine_cosine-w.result.cosine ≡ cosine w
   unfolding flattened
-  cosine_is = k.sine_cosine_in-w.ensures.1 ∙ ap cosine (angle k.before).same
+  cosine_is = k.sine_cosine-w.ensures.1 ∙ ap cosine (angle k.before).same
 
   abbrev cosine_w : Mirror
   cosine_w = told cosine_is (cosine_most w) tt
@@ -62,7 +62,7 @@ module _ (k : After-sine_cosine_in-w) where
   upwards = height read ⊗ sine_φ read
 
 -- the state in which w became known
-abbrev known : After-struct_told-4-1 → After-sine_cosine_in-w
+abbrev known : After-struct_told-4-1 → After-sine_cosine-w
 known k = k.before.before
 
 abbrev f : After-floor_div → Mirror
@@ -79,7 +79,7 @@ overflow_mul-sine k = fits (shrunk (goal.at.overflow_mul-sine k).After-struct_to
 
 pub angle_of-angle-requires : goal.angle_of-angle-requires
 angle_of-angle-requires k =
-    subst₂ (λ (y x : ℤ). 0 < nat_abs y + nat_abs x) (sym (polar_sine (goal.at.angle_of-angle-requires k).After-floor_div-flattened).same) (sym (cosine_φ (goal.at.angle_of-angle-requires k).After-struct_told-2-1).same) (directed (start (goal.at.angle_of-angle-requires k).After-struct_told-2-1).requires.1)
+    subst₂ (λ (y x : ℤ). 0 < nat_abs y + nat_abs x) (sym (polar_sine (goal.at.angle_of-angle-requires k).After-floor_div-flattened).same) (sym (cosine_φ (goal.at.angle_of-angle-requires k).After-struct_told-2-1).same) (directed (start (goal.at.angle_of-angle-requires k).After-struct_told-2-1).requires.0)
 
 pub overflow_cast-angle : goal.overflow_cast-angle
 overflow_cast-angle k = angle_fits (polar_sine (goal.at.overflow_cast-angle k).After-floor_div-flattened) (cosine_φ (goal.at.overflow_cast-angle k).After-struct_told-2-1) k.angle_of-angle.ensures

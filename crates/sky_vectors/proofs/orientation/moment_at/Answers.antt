@@ -17,10 +17,10 @@ module _ (s : Start) where
   instant = s.args.instant
 
   abbrev near : Reachable instant
-  near = s.requires.1.1
+  near = s.requires.1
 
   abbrev longitude : Mirror
-  longitude = arg s.ranges.longitude s.requires.1.0
+  longitude = arg s.ranges.longitude s.requires.0
 
   abbrev universal : Mirror
   universal = field instant.ut near.ut_near tt
@@ -55,12 +55,12 @@ pub powers_at-tt-requires : goal.powers_at-tt-requires
 powers_at-tt-requires c = asked (terrestrial (goal.at.powers_at-tt-requires c).Start) tt
 
 pub nutation_at-nutation-requires : goal.nutation_at-nutation-requires
-nutation_at-nutation-requires c = ((begun (goal.at.nutation_at-nutation-requires c).After-powers_at-tt).requires.0, tt_reached (goal.at.nutation_at-nutation-requires c).After-powers_at-tt)
+nutation_at-nutation-requires c = tt_reached (goal.at.nutation_at-nutation-requires c).After-powers_at-tt
 
 pub orientation_at-orientation-requires : goal.orientation_at-orientation-requires
 orientation_at-orientation-requires c =
     let k = (goal.at.orientation_at-orientation-requires c).After-powers_at-tt in record {
-      table_value = ((begun k).requires.0, asked (longitude (begun k)) tt);
+      within = asked (longitude (begun k)) tt;
       reached = ((ut_reached k, tt_reached k), c.nutation_at-nutation.ensures);
     }
 

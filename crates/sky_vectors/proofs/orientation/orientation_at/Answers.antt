@@ -31,7 +31,7 @@ module _ (s : Start) where
   Δε_mirror = told {r = s.args.nutation.obliquity} s.requires.reached.1.1 (Δε_most n near) tt
 
   abbrev longitude : Mirror
-  longitude = arg s.ranges.longitude s.requires.table_value.1
+  longitude = arg s.ranges.longitude s.requires.within
 
 module _ (c : After-apparent_at-greenwich) where
   abbrev nodded : After-obliquity_at-obliquity
@@ -57,7 +57,7 @@ pub obliquity_at-obliquity-requires : goal.obliquity_at-obliquity-requires
 obliquity_at-obliquity-requires c = let s = (goal.at.obliquity_at-obliquity-requires c).Start in (s.requires.reached.0.1, asked (Δε_mirror s) tt)
 
 pub apparent_at-greenwich-requires : goal.apparent_at-greenwich-requires
-apparent_at-greenwich-requires c = let s = (goal.at.apparent_at-greenwich-requires c).Start in (s.requires.table_value.0, (s.requires.reached.0.0, asked (Δψ_mirror s) tt))
+apparent_at-greenwich-requires c = let s = (goal.at.apparent_at-greenwich-requires c).Start in (s.requires.reached.0.0, asked (Δψ_mirror s) tt)
 
 pub overflow_add-sidereal : goal.overflow_add-sidereal
 overflow_add-sidereal c = fits (sidereal (goal.at.overflow_add-sidereal c).After-apparent_at-greenwich) tt

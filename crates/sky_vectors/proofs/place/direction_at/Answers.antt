@@ -11,10 +11,10 @@ use Rattle.sky_vectors.proofs.place.direction_at.Goals.{After-moment_at-moment, 
 
 module _ (s : Start) where
   abbrev near : Reachable s.args.instant
-  near = s.requires.1.1
+  near = s.requires.1
 
   abbrev longitude : Mirror
-  longitude = field s.args.runner.longitude s.requires.1.0.longitude_size tt
+  longitude = field s.args.runner.longitude s.requires.0.longitude_size tt
 
 module _ (c : After-moment_at-moment) where
   abbrev start : Start
@@ -27,16 +27,16 @@ module _ (c : After-moment_at-moment) where
   moment_is = c.moment_at-moment.ensures ∙ (λ i. moment ((longitude start).same i) start.args.instant)
 
 pub moment_at-moment-requires : goal.moment_at-moment-requires
-moment_at-moment-requires c = let s = (goal.at.moment_at-moment-requires c).Start in (s.requires.0, (asked (longitude s) tt, near s))
+moment_at-moment-requires c = let s = (goal.at.moment_at-moment-requires c).Start in (asked (longitude s) tt, near s)
 
 pub geocentric_at-centre-requires : goal.geocentric_at-centre-requires
 geocentric_at-centre-requires c =
-    ((start (goal.at.geocentric_at-centre-requires c).After-moment_at-moment).requires.0, (moment_reached (at (goal.at.geocentric_at-centre-requires c).After-moment_at-moment) (moment_is (goal.at.geocentric_at-centre-requires c).After-moment_at-moment) (near (start (goal.at.geocentric_at-centre-requires c).After-moment_at-moment)), moment_nutation (at (goal.at.geocentric_at-centre-requires c).After-moment_at-moment) (moment_is (goal.at.geocentric_at-centre-requires c).After-moment_at-moment) (near (start (goal.at.geocentric_at-centre-requires c).After-moment_at-moment))))
+    (moment_reached (at (goal.at.geocentric_at-centre-requires c).After-moment_at-moment) (moment_is (goal.at.geocentric_at-centre-requires c).After-moment_at-moment) (near (start (goal.at.geocentric_at-centre-requires c).After-moment_at-moment)), moment_nutation (at (goal.at.geocentric_at-centre-requires c).After-moment_at-moment) (moment_is (goal.at.geocentric_at-centre-requires c).After-moment_at-moment) (near (start (goal.at.geocentric_at-centre-requires c).After-moment_at-moment)))
 
 pub from_surface-requires : goal.from_surface-requires
 from_surface-requires c =
     let s = start (goal.at.from_surface-requires c).After-moment_at-moment in
-    (s.requires.0, centre_parallax (at (goal.at.from_surface-requires c).After-moment_at-moment) (moment_is (goal.at.from_surface-requires c).After-moment_at-moment) (near s) s.args.body c.geocentric_at-centre.ensures, s.requires.1.0.observer_size)
+    (centre_parallax (at (goal.at.from_surface-requires c).After-moment_at-moment) (moment_is (goal.at.from_surface-requires c).After-moment_at-moment) (near s) s.args.body c.geocentric_at-centre.ensures, s.requires.0.observer_size)
 
 pub returns : goal.returns
 unfolding direction

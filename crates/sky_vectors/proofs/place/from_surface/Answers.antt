@@ -10,12 +10,12 @@ use Rattle.sky_vectors.proofs.place.from_surface.Goals as goal
 use Rattle.sky_vectors.proofs.place.from_surface.Goals.{Start}
 
 abbrev parallax : Start → Mirror
-parallax s = field s.args.body.parallax s.requires.1 tt
+parallax s = field s.args.body.parallax s.requires.0 tt
 
 pub shifted-requires : goal.shifted-requires
 shifted-requires c = (
   search rules,
-  c.requires.2,
+  c.requires.1,
   subst⁻¹ (SmallVector vector_limit) c.from_centre.ensures (widen tt (centre_small c.args.body c.args.orientation)),
 )
 

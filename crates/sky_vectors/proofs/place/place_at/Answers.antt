@@ -7,7 +7,7 @@ use Rattle.sky_vectors.proofs.place.place_at.Goals as goal
 
 pub place_from-requires : goal.place_from-requires
 place_from-requires c =
-    (c.requires.0, (subst⁻¹ Standing c.runner_at.ensures (runner_stands c.args.point c.requires.1.0), c.requires.1.1))
+    (subst⁻¹ Standing c.runner_at.ensures (runner_stands c.args.point c.requires.0), c.requires.1)
 
 pub returns : goal.returns
 unfolding place_at

@@ -7,8 +7,8 @@ use Rattle.sky_vectors.proofs.place.place_from.Goals as goal
 
 pub place_towards-requires : goal.place_towards-requires
 place_towards-requires c = (
-  c.requires.1.0.latitude_angle,
-  subst⁻¹ (SmallVector direction_limit) c.direction_at.ensures (direction_small c.args.body c.requires.1.0 c.requires.1.1),
+  c.requires.0.latitude_angle,
+  subst⁻¹ (SmallVector direction_limit) c.direction_at.ensures (direction_small c.args.body c.requires.0 c.requires.1),
 )
 
 pub returns : goal.returns
