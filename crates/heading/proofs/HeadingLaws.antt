@@ -8,13 +8,13 @@ use lib.Dec.{T, ltb→lt}
 use lib.IntN.{nat_abs, negsuc, pos, ℤ}
 use lib.Signed.{le_z, lt_z}
 use mir.Facts.{and_yes}
-use borrow.Author.Tests.{eq-eqb, le-ltb, lt-ltb, ne_eqb}
+use borrow.Author.Tests.{eq-eqb, le-leb, le-ltb, lt-ltb, ne_eqb}
 use Rattle.number_rules.specs.Angle.{full_turn, half_turn}
 use Rattle.calendar.specs.Refusal.{OneAnswer}
-use Rattle.calendar.proofs.RefusalLaws.{never_none, number_tells, one_answer}
+use Rattle.calendar.proofs.RefusalLaws.{one_answer, result_tells}
 use Rattle.heading.specs.Heading.{MiddleAnswer, clockwise, half_way, is_reduced, middle, middle_answer, middle_of}
-use Rattle.heading.specs.declared.middle.Middle.{Middle}
-use Rattle.heading.specs.declared.middle.Middle.TheVariants.{Azimuth, Refused}
+use Rattle.calendar.specs.declared.refusal.Refusal.{Refusal}
+use Rattle.std.specs.Prelude.{Result}
 
 -- what a test of `is_reduced` tells
 pub no_test : {r : Bool} {z x : ℤ} → r ≡ is_reduced z → z ≡ x → r ≡ false → is_reduced x ≡ false
@@ -40,14 +40,18 @@ pub first_refused : (a b : ℤ) → is_reduced a ≡ false → middle a b ≡ re
 unfolding middle
 first_refused a b h = ap (λ (p : Bool). cond (p && is_reduced b) (middle_of (nat_abs a) (nat_abs b)) (refused 15)) h
 
-module _ (a b : ℤ) (h : is_reduced a ≡ true) where
-  pub second_refused : is_reduced b ≡ false → middle a b ≡ refused 15
-  unfolding middle
-  second_refused k = ap₂ (λ (p q : Bool). cond (p && q) (middle_of (nat_abs a) (nat_abs b)) (refused 15)) h k
+pub second_refused : (a b : ℤ) → is_reduced a ≡ true → is_reduced b ≡ false → middle a b ≡ refused 15
+unfolding middle
+second_refused a b h k = ap₂ (λ (p q : Bool). cond (p && q) (middle_of (nat_abs a) (nat_abs b)) (refused 15)) h k
 
-  pub both_reduced : is_reduced b ≡ true → middle a b ≡ middle_of (nat_abs a) (nat_abs b)
-  unfolding middle
-  both_reduced k = ap₂ (λ (p q : Bool). cond (p && q) (middle_of (nat_abs a) (nat_abs b)) (refused 15)) h k
+pub reduced_is : {z : ℤ} {n : ℕ} → z ≡ pos n → n < full_turn → is_reduced z ≡ true
+unfolding is_reduced
+reduced_is {z} {n} e h = rw e (simp (le-leb 0 n (omega arith), lt-ltb n full_turn h))
+
+-- the middle of two angles whose numbers were read
+pub both_reduced : (a b : ℤ) {x y : ℕ} → a ≡ pos x → x < full_turn → b ≡ pos y → y < full_turn → middle a b ≡ middle_of x y
+unfolding middle
+both_reduced a b e h f k = simp (reduced_is e h, reduced_is f k) (ap₂ (λ (z w : ℤ). middle_of (nat_abs z) (nat_abs w)) e f)
 
 module _ (a b : ℕ) where
   pub opposite : clockwise a b ≡ half_turn → middle_of a b ≡ refused 14
@@ -67,11 +71,8 @@ module _ (a b : ℕ) where
   clockwise_below = mod-lt (b + full_turn - a) (zero-lt-suc 35_999_999_999)
 
 -- ---- a middle is told from any other by its numbers
-middle_tells : (x y : Middle) → middle_answer x ≡ middle_answer y → x ≡ y
-middle_tells (Azimuth a) (Azimuth b) same = ap (λ (m : MiddleAnswer). Azimuth m.azimuth) same
-middle_tells (Azimuth a) (Refused r) same = absurd (never_none r (sym (ap (λ (m : MiddleAnswer). m.refusal) same)))
-middle_tells (Refused r) (Azimuth a) same = absurd (never_none r (ap (λ (m : MiddleAnswer). m.refusal) same))
-middle_tells (Refused r) (Refused s) same = ap Refused (number_tells r s (ap (λ (m : MiddleAnswer). m.refusal) same))
+middle_tells : (x y : Result ℕ Refusal) → middle_answer x ≡ middle_answer y → x ≡ y
+middle_tells = result_tells middle_answer (λ m. m.refusal) (λ x. refl) (λ x. refl) (λ x y same. ap (λ (m : MiddleAnswer). m.azimuth) same)
 
-pub one_middle : {found : Middle} {rule : MiddleAnswer} → middle_answer found ≡ rule → OneAnswer middle_answer rule found
+pub one_middle : {found : Result ℕ Refusal} {rule : MiddleAnswer} → middle_answer found ≡ rule → OneAnswer middle_answer rule found
 one_middle = one_answer middle_tells

@@ -1,19 +1,18 @@
 -- The middle of two azimuths (01, "A request and its numbered refusals").
-use Rattle.std.specs.Prelude.{Bool, cond, ◌&&◌, ℕ, ◌+◌, ◌-◌, ◌/◌, ◌%◌, eqb, ltb, ℤ, pos, nat_abs}
+use Rattle.std.specs.Prelude.{Result, Ok, Err, Bool, cond, ◌&&◌, ℕ, ◌+◌, ◌-◌, ◌/◌, ◌%◌, eqb, ltb, ℤ, pos, nat_abs}
 use Rattle.std.specs.Int.Signed.{le_z, lt_z}
 use Rattle.number_rules.specs.Angle.{full_turn, half_turn}
 use Rattle.calendar.specs.Refusal.{number}
-use Rattle.heading.specs.declared.middle.Middle.{Middle}
-use Rattle.heading.specs.declared.middle.Middle.TheVariants.{Azimuth, Refused}
+use Rattle.calendar.specs.declared.refusal.Refusal.{Refusal}
 
 -- an answer in 01's numbers: the refusal, 0 where there is none, and the azimuth, 0 where refused
 pub record MiddleAnswer : Type 0 where
   pub refusal : ℕ
   pub azimuth : ℕ
 
-abbrev pub middle_answer : Middle → MiddleAnswer
-middle_answer (Azimuth a) = record { refusal = 0; azimuth = a }
-middle_answer (Refused refusal) = record { refusal = number refusal; azimuth = 0 }
+abbrev pub middle_answer : Result ℕ Refusal → MiddleAnswer
+middle_answer (Ok a) = record { refusal = 0; azimuth = a }
+middle_answer (Err refusal) = record { refusal = number refusal; azimuth = 0 }
 
 -- 0 to 35,999,999,999
 unfoldable pub is_reduced : ℤ → Bool

@@ -1,5 +1,5 @@
 // The middle of two azimuths, the short way round.
-ghost use Rattle.std.specs.Prelude.{◌≡◌, ◌<◌};
+ghost use Rattle.std.specs.Prelude.{◌≡◌, ◌<◌, false, pos, MatchResult};
 ghost use Rattle.number_rules.specs.Angle.{full_turn};
 ghost use Rattle.calendar.specs.Refusal.{OneAnswer};
 ghost use Rattle.heading.specs.Heading.{is_reduced, clockwise, half_way, middle, middle_answer};
@@ -7,16 +7,21 @@ ghost use Rattle.heading.specs.Heading.{is_reduced, clockwise, half_way, middle,
 use calendar::refusal::Refusal;
 use numbers::angle::Angle;
 
-#[derive(Clone, Copy)]
-pub enum Middle {
-    Azimuth(u64),
-    Refused(Refusal),
-}
-
 pub fn is_reduced(x: i64) -> bool
     ensures { result ≡ is_reduced x }
 {
     if x < 0 { false } else { x < Angle::FULL as i64 }
+}
+
+// The number of a reduced angle.
+fn reduced(x: i64) -> Result<u64, Refusal>
+    ensures { MatchResult result (λ n. (x ≡ pos n) × (n < full_turn)) (λ refusal. (is_reduced x ≡ false) × (refusal ≡ Refusal.NotReduced)) }
+{
+    if is_reduced(x) {
+        Ok(x as u64)
+    } else {
+        Err(Refusal::NotReduced)
+    }
 }
 
 // The arc from a to b, clockwise.
@@ -36,25 +41,19 @@ fn half_way(from: u64, arc: u64) -> u64
 }
 
 // From the end whose short way to the other runs clockwise, half of the arc on.
-pub fn middle_azimuth(a: i64, b: i64) -> Middle
+pub fn middle_azimuth(a: i64, b: i64) -> Result<u64, Refusal>
     ensures { OneAnswer middle_answer (middle a b) result }
 {
-    if !is_reduced(a) {
-        return Middle::Refused(Refusal::NotReduced);
-    }
-    if !is_reduced(b) {
-        return Middle::Refused(Refusal::NotReduced);
-    }
-    let start = a as u64;
-    let end = b as u64;
+    let start = reduced(a)?;
+    let end = reduced(b)?;
     let arc = clockwise(start, end);
     let opposite = arc == Angle::HALF;
     let forward = arc < Angle::HALF;
     if opposite {
-        Middle::Refused(Refusal::Opposite)
+        Err(Refusal::Opposite)
     } else if forward {
-        Middle::Azimuth(half_way(start, arc))
+        Ok(half_way(start, arc))
     } else {
-        Middle::Azimuth(half_way(end, Angle::FULL - arc))
+        Ok(half_way(end, Angle::FULL - arc))
     }
 }
