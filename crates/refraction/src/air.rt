@@ -3,7 +3,7 @@ ghost use Rattle.std.specs.Prelude.{◌≡◌};
 ghost use Rattle.calendar.specs.Refusal.{first, verdict_number};
 ghost use Rattle.refraction.specs.Air.{between_doubles, air_refusals};
 
-use calendar::refusal::{Refusal, Verdict, or_else, unless};
+use calendar::refusal::{Refusal, unless};
 
 // Measured air: its pressure in mbar and its temperature in °C. A request without has None.
 #[derive(Clone, Copy)]
@@ -20,18 +20,15 @@ fn is_between(lo: f64, x: f64, hi: f64) -> bool
 }
 
 // The first of checks 10 and 11 that refuses.
-pub fn air_verdict(air: Option<Air>) -> Verdict
+pub fn air_verdict(air: Option<Air>) -> Result<(), Refusal>
     ensures { verdict_number result ≡ first (air_refusals air) }
 {
-    match air {
-        None => Verdict::Passed,
-        Some(air) => {
-            let by_pressure = unless(Refusal::Pressure, is_between(0.0, air.pressure, 1200.0));
-            let by_temperature = unless(
-                Refusal::Temperature,
-                is_between(-80.0, air.temperature, 80.0),
-            );
-            or_else(by_pressure, by_temperature)
-        }
-    }
+    let Some(air) = air else {
+        return Ok(());
+    };
+    unless(Refusal::Pressure, is_between(0.0, air.pressure, 1200.0))?;
+    unless(
+        Refusal::Temperature,
+        is_between(-80.0, air.temperature, 80.0),
+    )
 }

@@ -3,7 +3,6 @@ use mathlib.Core.Bool.{false}
 use mathlib.Core.Path.{◌∙◌, ◌≡◌, ap, subst⁻¹}
 use lib.Ieee as Ieee
 use lib.Signed.{lt_z}
-use borrow.Author.Rules.{rules}
 use Rattle.numbers.proofs.Machine.{Mirror, arg, lit, not_less}
 use Rattle.refraction.specs.Refraction.{IsRefracted, lowest_refracted, measured_refraction, refraction, refraction_in}
 use Rattle.refraction.proofs.formula.refraction.Goals as goal
@@ -25,9 +24,6 @@ module _ (c : Else-elevation-lt-LOWEST_REFRACTED) where
 pub returns-then-elevation-lt-LOWEST_REFRACTED : goal.returns-then-elevation-lt-LOWEST_REFRACTED
 unfolding refraction Ieee.of_bits Ieee.of_int
 returns-then-elevation-lt-LOWEST_REFRACTED c = rw (rw (e (goal.at.returns-then-elevation-lt-LOWEST_REFRACTED c).Start).same at c.if-elevation-lt-LOWEST_REFRACTED.true)
-
-pub enum_told-1 : goal.enum_told-1
-enum_told-1 c = search rules
 
 pub measured_refraction-requires : goal.measured_refraction-requires
 measured_refraction-requires c = refracted (goal.at.measured_refraction-requires c).Else-elevation-lt-LOWEST_REFRACTED
