@@ -1,13 +1,15 @@
 -- The share by its cases, and how large the overlap's numbers grow.
 use mathlib.Core.Bool.{Bool, cond, false, true}
 use mathlib.Core.Path.{◌∙◌, ◌≡◌, ap, refl}
-use Prim.Native.Nat.{◌%◌, ◌*◌, ◌+◌, ◌-◌, ◌/◌, ◌<◌, ◌≤◌, ℕ}
+use Prim.Native.Nat.{◌%◌, ◌*◌, ◌+◌, ◌-◌, ◌/◌, ◌<◌, ◌≤◌, min, ℕ}
 use native.Mathlib.Nat.{div-add-mod, div-le_of_le-mul, le_refl, le_trans, mul-add-div, mul-le-mul, mul-le-mul_left, mul-le-mul_right}
 use native.Mathlib.Omega.{arith}
 use lib.Dec.{T, leb, leb→le, lit≤, ltb}
-use lib.IntN.{◌*ℤ◌, ◌-ℤ◌, nat_abs, pos, ℤ}
+use lib.IntN.{◌*ℤ◌, ◌-ℤ◌, nat_abs, negsuc, pos, ℤ}
 use lib.Signed.{lt_z}
 use borrow.Author.Tests.{le-leb, le-ltb, lt-leb, lt-ltb, ltb-false}
+use Rattle.std.specs.Int.{int_max}
+use Rattle.std.proofs.lemmas.Bool.Decides.{nat_tests}
 use Rattle.arithmetic.specs.Floor.{⌊◌÷◌⌋}
 use Rattle.arithmetic.proofs.FloorLaws.{floor_most}
 use Rattle.arithmetic.proofs.Sizes.{mul_bound, sub_bound}
@@ -42,22 +44,15 @@ module _ (apart rs rm : ℕ) (near : apart < rs + rm) where
   unfolding share
   share_small_moon h k = rw (lt-leb (rs + rm) apart near, lt-leb rs rm h, lt-ltb rm rs h, lt-leb apart (rs - rm) k) refl
 
--- ---- the cases of the clamp, and that it clamps
+-- ---- the clamp, and that it clamps
+pub clamped : (part : ℤ) → min (nat_abs (int_max part (pos 0)) / 1000) whole ≡ millionths part
+unfolding millionths
+clamped (pos n) = grind (arith, nat_tests)
+clamped (negsuc n) = grind (arith, nat_tests)
+
 module _ (part : ℤ) where
   abbrev floored : ℕ
   floored = nat_abs part / 1000
-
-  pub millionths_below : lt_z part (pos 0) ≡ true → millionths part ≡ 0
-  unfolding millionths
-  millionths_below h = rw h refl
-
-  pub millionths_over : lt_z part (pos 0) ≡ false → whole < floored → millionths part ≡ whole
-  unfolding millionths
-  millionths_over h k = rw (h, lt-ltb whole floored k) refl
-
-  pub millionths_plain : lt_z part (pos 0) ≡ false → floored ≤ whole → millionths part ≡ floored
-  unfolding millionths
-  millionths_plain h k = rw (h, le-ltb whole floored k) refl
 
   pub millionths_most : millionths part ≤ whole
   unfolding millionths

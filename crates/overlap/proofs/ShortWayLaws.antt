@@ -1,23 +1,19 @@
 -- The short way round is at most half a turn.
 use mathlib.Core.Bool.{Bool, cond, false, true}
 use mathlib.Core.Path.{◌≡◌, refl}
-use Prim.Native.Nat.{◌-◌, ◌<◌, ◌≤◌, ℕ}
+use Prim.Native.Nat.{◌-◌, ◌≤◌, min, ℕ}
 use native.Mathlib.Omega.{arith}
 use lib.Dec.{ltb}
 use lib.IntN.{nat_abs, ℤ}
-use borrow.Author.Tests.{le-ltb, lt-ltb, ltb-false, ltb-true}
+use borrow.Author.Tests.{ltb-false, ltb-true}
+use Rattle.std.proofs.lemmas.Bool.Decides.{nat_tests}
 use Rattle.number_rules.specs.Angle.{full_turn, half_turn}
 use Rattle.sky_vectors.specs.Horizon.{slope}
 use Rattle.overlap.specs.ShortArctangent.{short_arctangent, short_way}
 
-module _ (angle : ℕ) where
-  pub other_way : full_turn - angle < angle → short_way angle ≡ full_turn - angle
-  unfolding short_way
-  other_way h = rw (lt-ltb (full_turn - angle) angle h) refl
-
-  pub same_way : angle ≤ full_turn - angle → short_way angle ≡ angle
-  unfolding short_way
-  same_way h = rw (le-ltb (full_turn - angle) angle h) refl
+pub shorter : (angle : ℕ) → min angle (full_turn - angle) ≡ short_way angle
+unfolding short_way
+shorter angle = grind (arith, nat_tests)
 
 short_way_most : (angle : ℕ) → short_way angle ≤ half_turn
 unfolding short_way

@@ -10,7 +10,5 @@ pub fn short_arctangent(y: i64, x: i64) -> u64
     ensures { result ≡ short_arctangent y x }
 {
     let angle = slope(y, x) as u64;
-    let other = Angle::FULL - angle;
-    let shorter = other < angle;
-    if shorter { other } else { angle }
+    angle.min(Angle::FULL - angle)
 }

@@ -3,7 +3,6 @@ use mathlib.Core.Path.{◌∙◌, ◌≡◌, ap, ap₂, subst⁻¹}
 use Prim.Native.Nat.{◌*◌, ◌/◌, ◌≤◌, ℕ}
 use native.Mathlib.Omega.{arith}
 use lib.IntN.{pos, ◌*ℤ◌, ◌-ℤ◌}
-use borrow.Author.Rules.{rules}
 use Rattle.arithmetic.specs.Floor.{⌊◌÷◌⌋}
 use Rattle.number_rules.specs.Angle.{half_turn}
 use Rattle.number_rules.specs.Sine.{sine}
@@ -13,7 +12,7 @@ use Rattle.overlap.specs.Overlap.{half_angle, piece}
 use Rattle.overlap.specs.ShortArctangent.{short_arctangent}
 use Rattle.overlap.proofs.OverlapLaws.{chord_fits, diameter_most, half_angle_most, half_chord_most}
 use Rattle.overlap.proofs.overlap.piece.Goals as goal
-use Rattle.overlap.proofs.overlap.piece.Goals.{After-floor_div, After-root-half_chord, After-short_arctangent-half_angle, After-sine_in-sine, Start}
+use Rattle.overlap.proofs.overlap.piece.Goals.{After-floor_div, After-root-half_chord, After-short_arctangent-half_angle, After-sine-sine, Start}
 
 module _ (s : Start) where
   abbrev r : ℕ
@@ -25,11 +24,11 @@ module _ (s : Start) where
   abbrev from_centre : Mirror
   from_centre =
       let l : k ≤ diameter_most = omega arith in
-      from_nat {n = r} s.requires.1.0 tt ⊖ from_nat {n = k} l tt
+      from_nat {n = r} s.requires.0 tt ⊖ from_nat {n = k} l tt
 
 module _ (c : After-root-half_chord) where
   chord_most : c.root-half_chord.result ≤ diameter_most
-  chord_most = subst⁻¹ (λ (n : ℕ). n ≤ diameter_most) c.root-half_chord.ensures (half_chord_most (r c.before) (k c.before) c.requires.1.0 c.requires.1.1)
+  chord_most = subst⁻¹ (λ (n : ℕ). n ≤ diameter_most) c.root-half_chord.ensures (half_chord_most (r c.before) (k c.before) c.requires.0 c.requires.1)
 
   abbrev chord : Mirror
   chord = from_nat chord_most tt
@@ -53,14 +52,14 @@ module _ (c : After-short_arctangent-half_angle) where
   part_most : c.short_arctangent-half_angle.result / 18 ≤ 1_000_000_000
   part_most = omega (arith, angle_most)
 
-abbrev sine_twice : After-sine_in-sine → Mirror
+abbrev sine_twice : After-sine-sine → Mirror
 sine_twice c =
     let ω = half_angle (r (from c.before)) (k (from c.before)) in
-    gave {v = sine (pos (2 * ω))} c.sine_in-sine.type_inv
-    (c.sine_in-sine.ensures ∙ ap sine ((from_nat (twice_most c.before) tt).same ∙ ap (λ (n : ℕ). pos (2 * n)) (angle_is c.before)))
+    gave {v = sine (pos (2 * ω))} c.sine-sine.type_inv
+    (c.sine-sine.ensures ∙ ap sine ((from_nat (twice_most c.before) tt).same ∙ ap (λ (n : ℕ). pos (2 * n)) (angle_is c.before)))
     (sine_most (pos (2 * ω)))
 
-abbrev product : After-sine_in-sine → Mirror
+abbrev product : After-sine-sine → Mirror
 product c = lit (pos 159_154_943) ⊗ sine_twice c
 
 abbrev result : After-floor_div → Mirror
@@ -69,7 +68,7 @@ result c =
     ⊖ floor_gave (kept (product c.before) tt) 1_000_000_000 c.floor_div.type_inv c.floor_div.ensures
 
 pub overflow_mul-height : goal.overflow_mul-height
-overflow_mul-height c = omega (arith, chord_fits (r (goal.at.overflow_mul-height c).Start) (k (goal.at.overflow_mul-height c).Start) c.requires.1.0 c.requires.1.1)
+overflow_mul-height c = omega (arith, chord_fits (r (goal.at.overflow_mul-height c).Start) (k (goal.at.overflow_mul-height c).Start) c.requires.0 c.requires.1)
 
 pub overflow_cast-half_chord : goal.overflow_cast-half_chord
 overflow_cast-half_chord c = nat_fits (chord_most (goal.at.overflow_cast-half_chord c).After-root-half_chord) tt
@@ -87,7 +86,7 @@ pub overflow_cast-result : goal.overflow_cast-result
 overflow_cast-result c = nat_fits (part_most (goal.at.overflow_cast-result c).After-short_arctangent-half_angle) tt
 
 pub overflow_mul-sine : goal.overflow_mul-sine
-overflow_mul-sine c = fits (product (goal.at.overflow_mul-sine c).After-sine_in-sine) tt
+overflow_mul-sine c = fits (product (goal.at.overflow_mul-sine c).After-sine-sine) tt
 
 pub overflow_sub-result : goal.overflow_sub-result
 overflow_sub-result c = fits (result (goal.at.overflow_sub-result c).After-floor_div) tt

@@ -1,28 +1,28 @@
--- `overlap::overlap::ring` meets its contract.
+-- `overlap::overlap::Disks::ring` meets its contract.
 use mathlib.Core.Path.{sym}
 use Prim.Native.Nat.{◌%◌, ◌*◌, ◌/◌, ◌<◌, ◌≤◌, ℕ}
 use native.Mathlib.Nat.{div-le_of_le-mul, div-le_self, mod-lt, mul-le-mul}
 use native.Mathlib.Omega.{arith}
 use Rattle.overlap.specs.Overlap.{ring}
 use Rattle.overlap.proofs.OverlapLaws.{ring_digits}
-use Rattle.overlap.proofs.overlap.ring.Goals as goal
-use Rattle.overlap.proofs.overlap.ring.Goals.{Start}
+use Rattle.overlap.proofs.overlap.Disks.ring.Goals as goal
+use Rattle.overlap.proofs.overlap.Disks.ring.Goals.{Start}
 
 module _ (c : Start) where
   abbrev rs : ℕ
-  rs = c.args.rs
+  rs = c.args.self.sun
 
   abbrev rm : ℕ
-  rm = c.args.rm
+  rm = c.args.self.moon
 
   sun_small : rs * rs ≤ 900_000_000_000_000
-  sun_small = mul-le-mul c.requires.1.0 c.requires.1.0
+  sun_small = mul-le-mul c.args.self.radii.sun_most c.args.self.radii.sun_most
 
   moon_less : rm * rm ≤ rs * rs
-  moon_less = mul-le-mul c.requires.1.1 c.requires.1.1
+  moon_less = mul-le-mul c.requires c.requires
 
   sun_above : 0 < rs * rs
-  sun_above = let l : 1 ≤ rs = c.requires.0 in omega (arith, mul-le-mul l l)
+  sun_above = let l : 1 ≤ rs = omega (arith, c.args.self.radii.sun_least) in omega (arith, mul-le-mul l l)
 
   first_small : 1000 * (rm * rm) / (rs * rs) ≤ 1000
   first_small = div-le_of_le-mul (rs * rs) (omega (arith, moon_less))
