@@ -7,10 +7,11 @@ ghost use Rattle.heading.specs.Heading.{is_reduced, clockwise, half_way, middle,
 use calendar::refusal::Refusal;
 use numbers::angle::Angle;
 
+#[tactic(auto, unfolding(crate::specs::Heading::is_reduced))]
 pub fn is_reduced(x: i64) -> bool
     ensures { result ≡ is_reduced x }
 {
-    if x < 0 { false } else { x < Angle::FULL as i64 }
+    (0..Angle::FULL as i64).contains(&x)
 }
 
 // The number of a reduced angle.
@@ -25,6 +26,7 @@ fn reduced(x: i64) -> Result<u64, Refusal>
 }
 
 // The arc from a to b, clockwise.
+#[tactic(auto, unfolding(crate::specs::Heading::clockwise))]
 pub fn clockwise(a: u64, b: u64) -> u64
     requires { (a < full_turn) × (b < full_turn) }
     ensures { result ≡ clockwise a b }
