@@ -1,6 +1,6 @@
 -- What a call of `is_between` told, and what checks that pass say: their numbers lie within bounds, and the start is accepted.
 use mathlib.Core.Bool.{Bool, ◌&&◌, false, true}
-use mathlib.Core.List.{List, [], ◌++◌, ◌∷◌}
+use mathlib.Core.List.{List, [], ◌++◌}
 use mathlib.Core.Path.{◌∙◌, ◌≡◌, ap, refl, subst⁻¹, sym}
 use Prim.Native.Nat.{◌≤◌, ℕ}
 use native.Mathlib.Nat.{le_refl}
@@ -15,7 +15,7 @@ use mir.Val.{SFits, of_z, to_z}
 use mir.ValLaws.{to_z-of_z}
 use Rattle.arithmetic.proofs.Difference.{#◌, ◌⊞◌, ◌⊠◌, by_le, by_lt, to_le, to_lt, ⊟◌, ⟨◌⟩}
 use Rattle.number_rules.proofs.CalendarLaws.{accepted_days, day_after_last_is, first_day_is}
-use Rattle.calendar.proofs.RefusalLaws.{alone, first_append, none, none_append, passes}
+use Rattle.calendar.proofs.RefusalLaws.{first_append, none, none_append, passes}
 use Rattle.calendar.specs.Refusal.{◌else◌, ◌unless◌, first}
 use Rattle.numbers.specs.Whole.{between}
 use Rattle.request.specs.Request.{date, delta_limit, elapsed, fraction_limit, instant, is_clock, point_refusals, start_refusals, ut1_limit}
@@ -32,8 +32,8 @@ tested lo x hi f e = sym (e ∙ ap (λ (z : ℤ). between lo z hi) (to_z-of_z w6
 
 -- the verdict on a number that must lie between two
 pub judged_between : (n : ℕ) (lo x hi : ℤ) {v : ℕ} {passes : Bool} → SFits w64 x → v ≡ n unless passes → passes ≡ between lo (to_z w64 (of_z w64 x)) hi
-    → v ≡ first (n unless between lo x hi ∷ [])
-judged_between n lo x hi f e b = alone (e ∙ ap (λ (p : Bool). n unless p) (sym (tested lo x hi f b)))
+    → v ≡ n unless between lo x hi
+judged_between n lo x hi f e b = e ∙ ap (λ (p : Bool). n unless p) (sym (tested lo x hi f b))
 
 -- ---- a check that passes
 pub between_le : (lo x hi : ℤ) → between lo x hi ≡ true → (lo ≤ℤ x) × (x ≤ℤ hi)
