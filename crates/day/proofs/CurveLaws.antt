@@ -1,18 +1,15 @@
--- A list of what a function gives for each number below n: its length, its entries, and how an array is filled with it from the front.
+-- A list of what a function gives for each number below n: its length, its entries, which list it is, and how an array is filled with it from the front.
 use mathlib.Core.List.{List, [], ◌++◌, ◌∷◌}
 use mathlib.Core.Path.{◌∙◌, ◌≡◌, ap, ap₂, refl, sym}
-use Prim.Native.Nat.{◌+◌, ◌<◌, ◌^◌, suc, zero, ℕ}
+use Prim.Native.Nat.{◌+◌, ◌<◌, suc, zero, ℕ}
 use native.Mathlib.Decide.{dec_lt}
 use native.Mathlib.Numerals.{add-one}
 use native.Mathlib.Omega.{arith}
-use lib.IntN.{ℤ}
+use lib.IntN.{pos, ℤ}
 use lib.ListN.{get_or-append, drop, get_or, length, length-append, set, take, take-append-drop}
 use lib.Seq.{drop-drop, drop-set-lt, get_or_at, take-suc-set}
-use lib.Signed.{mag}
-use mir.Syntax.{w64}
-use mir.Val.{of_z, to_z}
-use mir.ValLaws.{to_z-of_z}
-use Rattle.day.specs.Curve.{each_below}
+use Rattle.std.proofs.lemmas.List.{get_or_default, same_lists}
+use Rattle.day.specs.Curve.{EachMinute, each_below, minutes}
 
 module _ {A : Type 0} (f : ℕ → A) where
   pub below_length : (n : ℕ) → length (each_below f n) ≡ n
@@ -39,10 +36,12 @@ module _ {A : Type 0} (f : ℕ → A) where
   unfolding each_below
   filled_next now {v} m h so_far is = rw (add-one, take-suc-set now m v h, so_far, is)
 
--- from a value as the machine holds it
-pub filled_more : (f : ℕ → ℤ) (now : List ℤ) {v : ℤ} (m : ℕ) → m < length now → take m now ≡ each_below f m → mag v < 2 ^ 63 → v ≡ f m
-    → take (m + 1) (set now m (to_z w64 (of_z w64 v))) ≡ each_below f (m + 1)
-filled_more f now {v} m h so_far range is = filled_next f now m h so_far (to_z-of_z w64 v (record { sfits = range }) ∙ is)
+-- an entry for each minute, of which P leaves one number
+pub curve_is : {P : ℕ → ℤ → Type 0} (f : ℕ → ℤ) → ((m : ℕ) (z : ℤ) → m < minutes → P m z → z ≡ f m) → {curve : List ℤ} → EachMinute P curve → curve ≡ each_below f minutes
+curve_is f one {curve} e =
+    same_lists curve (each_below f minutes) (e.whole ∙ sym (below_length f minutes))
+    (λ k d h. let within : k < minutes = omega (arith, h, e.whole) in
+    get_or_default curve k d (pos 0) h ∙ one k (get_or curve k (pos 0)) within (e.entry k within) ∙ sym (below_entry f d minutes k within))
 
 -- ---- a buffer that is filled from the front, with its rest as it was
 module _ {A : Type 0} (before now : List A) (index : ℕ) (rest : drop index now ≡ drop index before) where

@@ -1,17 +1,13 @@
 -- The curve (02, Item 1): a whole day of 1,440 elevations, worked once and kept.
-use Rattle.std.specs.Prelude.{List, [], ◌++◌, ◌∷◌, ◌*◌, ◌-◌, ◌<◌, suc, zero, ℕ, ◌-ℤ◌, pos, ℤ, ◌<ℤ◌}
-use Rattle.arctangent.specs.Direction.{angle_or, mark}
-use Rattle.arctangent.specs.declared.direction.Direction.{Direction}
+use Rattle.std.specs.Prelude.{List, [], ◌≡◌, ◌++◌, ◌∷◌, ◌*◌, ◌-◌, ◌<◌, suc, zero, ℕ, ◌-ℤ◌, pos, ℤ, ◌<ℤ◌, get_or, length}
+use Rattle.arctangent.specs.Direction.{Direction}
 use Rattle.sum_rules.specs.Instant.{Accepted, first_day, second, terrestrial_time, universal_time}
 use Rattle.sum_rules.specs.declared.instant.Instant.{Instant}
 use Rattle.sky_vectors.specs.Place.{place_at, place_from}
 use Rattle.sky_vectors.specs.declared.geocentric.Body.{Body}
-use Rattle.sky_vectors.specs.declared.place.Place.{Place}
 use Rattle.sky_vectors.specs.declared.station.Point.{Point}
 use Rattle.sky_vectors.specs.declared.station.Runner.{Runner}
 use Rattle.day.specs.Date.{days}
-use Rattle.day.specs.declared.curve.Coordinate.{Coordinate}
-use Rattle.day.specs.declared.curve.Coordinate.TheVariants.{Azimuth, Elevation}
 use Rattle.day.specs.declared.date.Date.{Date}
 
 -- minutes 0 to 1439
@@ -58,13 +54,10 @@ elevation_from body runner date d m = (place_from body runner (minute_of date d 
 abbrev pub azimuth_from : Body → Runner → Date → ℤ → ℕ → Direction
 azimuth_from body runner date d m = (place_from body runner (minute_of date d m)).azimuth
 
--- a coordinate of a place as one number: where there is no azimuth, the mark
-abbrev pub coordinate_of : Coordinate → Place → ℤ
-coordinate_of Azimuth place = angle_or mark place.azimuth
-coordinate_of Elevation place = place.elevation
-
-abbrev pub coordinate_from : Coordinate → Body → Runner → Date → ℤ → ℕ → ℤ
-coordinate_from coordinate body runner date d m = coordinate_of coordinate (place_from body runner (minute_of date d m))
+-- an entry for each minute, of which P holds
+pub record EachMinute (P : ℕ → ℤ → Type 0) (curve : List ℤ) : Type 0 where
+  pub whole : length curve ≡ minutes
+  pub entry : (m : ℕ) → m < minutes → P m (get_or curve m (pos 0))
 
 -- a day whose every minute is accepted
 pub record AcceptedDay (date : Date) (d : ℤ) : Type 0 where

@@ -1,12 +1,11 @@
-// The minutes of a day, and the curve of a coordinate at them.
-ghost use Rattle.std.specs.Prelude.{◌≡◌, ◌<◌, length};
-ghost use Rattle.number_rules.specs.SineTable.{sines};
+// The minutes of a day, and the curve of a number at them.
+ghost use Rattle.std.specs.Prelude.{◌≡◌, ◌<◌, ℕ, length};
 ghost use Rattle.sky_vectors.specs.Place.{place_from};
 ghost use Rattle.sky_vectors.specs.SkyRange.{Reachable, Standing};
-ghost use Rattle.day.specs.Curve.{AcceptedDay, coordinate_from, coordinate_of, each_below, minute_of, minutes};
+ghost use Rattle.day.specs.Curve.{AcceptedDay, EachMinute, minute_of, minutes};
 
 use super::date::Date;
-use arctangent::direction::{Direction, MARK, angle_or};
+use numbers::angle::Angle;
 use sky_vectors::geocentric::Body;
 use sky_vectors::horizon::{azimuth, elevation, horizon_at};
 use sky_vectors::place::direction_at;
@@ -29,69 +28,30 @@ pub fn minute_of(date: Date, days: i64, minute: usize) -> Instant
 }
 
 // The elevation without refraction; the azimuth is not worked.
-pub fn elevation_from(table: &[u32; 361], body: Body, runner: Runner, instant: Instant) -> i64
-    requires { (table.now ≡ sines) × (Standing runner × Reachable instant) }
+pub fn elevation_from(body: Body, runner: Runner, instant: Instant) -> i64
+    requires { Standing runner × Reachable instant }
     ensures { result ≡ (place_from body runner instant).elevation }
 {
     let latitude = runner.latitude;
-    elevation(horizon_at(latitude, direction_at(table, body, runner, instant)))
+    elevation(horizon_at(latitude, direction_at(body, runner, instant)))
 }
 
 // The azimuth; the elevation is not worked.
-pub fn azimuth_from(table: &[u32; 361], body: Body, runner: Runner, instant: Instant) -> Direction
-    requires { (table.now ≡ sines) × (Standing runner × Reachable instant) }
+pub fn azimuth_from(body: Body, runner: Runner, instant: Instant) -> Option<Angle>
+    requires { Standing runner × Reachable instant }
     ensures { result ≡ (place_from body runner instant).azimuth }
 {
     let latitude = runner.latitude;
-    azimuth(horizon_at(latitude, direction_at(table, body, runner, instant)))
+    azimuth(horizon_at(latitude, direction_at(body, runner, instant)))
 }
 
-// What is kept of a place, as one number: the azimuth, or the mark where there is none, or the elevation without refraction.
-#[derive(Clone, Copy)]
-pub enum Coordinate {
-    Azimuth,
-    Elevation,
-}
-
-fn coordinate_from(
-    coordinate: Coordinate,
-    table: &[u32; 361],
-    body: Body,
-    runner: Runner,
-    instant: Instant,
-) -> i64
-    requires { (table.now ≡ sines) × (Standing runner × Reachable instant) }
-    ensures { result ≡ coordinate_of coordinate (place_from body runner instant) }
-{
-    match coordinate {
-        Coordinate::Azimuth => angle_or(MARK, azimuth_from(table, body, runner, instant)),
-        Coordinate::Elevation => elevation_from(table, body, runner, instant),
-    }
-}
-
-// Entry m is the coordinate at minute m. What the day has in common, the sine table and where the runner stands, is lent.
-pub fn fill(
-    coordinate: Coordinate,
-    table: &[u32; 361],
-    body: Body,
-    runner: Runner,
-    date: Date,
-    days: i64,
-    curve: &mut [i64],
-)
-    requires table_value { (table.now ≡ sines) × (Standing runner × AcceptedDay date days) }
+// Entry m is the number at minute m.
+pub fn fill<F: Fn(usize) -> i64>(curve: &mut [i64], at: F)
     requires curve_len { length curve.old ≡ minutes }
-    ensures { curve.new ≡ each_below (coordinate_from coordinate body runner date days) minutes }
+    requires callable { (m : ℕ) → m < minutes → F.pre at m }
+    ensures { EachMinute (F.post at) curve.new }
 {
-    let mut minute = 0;
-    while minute < MINUTES {
-        curve[minute] = coordinate_from(
-            coordinate,
-            table,
-            body,
-            runner,
-            minute_of(date, days, minute),
-        );
-        minute += 1;
+    for (minute, entry) in curve.iter_mut().enumerate() {
+        *entry = at(minute);
     }
 }

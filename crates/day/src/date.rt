@@ -1,9 +1,9 @@
 // A day's request: no clock. 1 to 3, then 5 to 9, by the checks that a start and a point have.
 ghost use Rattle.std.specs.Prelude.{◌≡◌};
 ghost use Rattle.calendar.specs.Refusal.{first, verdict_number};
-ghost use Rattle.day.specs.Date.{clock, days, day_refusals};
+ghost use Rattle.day.specs.Date.{clock, date_from, day_refusals, days};
 
-use calendar::refusal::{Verdict, or_else};
+use calendar::refusal::Refusal;
 use request::point::point_verdict;
 use request::start::{Start, date_of, date_verdict, days_in, scale_verdict};
 use sky_vectors::station::Point;
@@ -16,6 +16,22 @@ pub struct Date {
     pub day: i64,
     pub ut1: i64,
     pub delta_t: i64,
+}
+
+// From its five numbers, in the order of the fields.
+impl From<[i64; 5]> for Date {
+    ghost from_gives = { λ numbers date. date ≡ date_from numbers };
+
+    fn from(numbers: [i64; 5]) -> Self {
+        let [year, month, day, ut1, delta_t] = numbers;
+        Self {
+            year,
+            month,
+            day,
+            ut1,
+            delta_t,
+        }
+    }
 }
 
 // Its first instant, as a start.
@@ -43,11 +59,10 @@ pub fn days_of(date: Date) -> i64
 }
 
 // The first of 1 to 3 and 5 to 9 that applies.
-pub fn day_verdict(date: Date, point: Point) -> Verdict
+pub fn day_verdict(date: Date, point: Point) -> Result<(), Refusal>
     ensures { verdict_number result ≡ first (day_refusals date point) }
 {
-    let by_date = date_verdict(date_of(midnight(date)));
-    let by_scale = scale_verdict(date.ut1, date.delta_t);
-    let by_point = point_verdict(point);
-    or_else(by_date, or_else(by_scale, by_point))
+    date_verdict(date_of(midnight(date)))?;
+    scale_verdict(date.ut1, date.delta_t)?;
+    point_verdict(point)
 }

@@ -13,10 +13,10 @@ module _ (c : After-direction_at) where
   s = (goal.at.After-direction_at c).Start
 
   small : SmallVector direction_limit c.direction_at.result
-  small = subst⁻¹ (SmallVector direction_limit) c.direction_at.ensures (direction_small s.args.body s.requires.1.0 s.requires.1.1)
+  small = subst⁻¹ (SmallVector direction_limit) c.direction_at.ensures (direction_small s.args.body s.requires.0 s.requires.1)
 
 pub horizon_at-requires : goal.horizon_at-requires
-horizon_at-requires c = ((s (goal.at.horizon_at-requires c).After-direction_at).requires.1.0.latitude_angle, widen tt (small (goal.at.horizon_at-requires c).After-direction_at))
+horizon_at-requires c = ((s (goal.at.horizon_at-requires c).After-direction_at).requires.0.latitude_angle, widen tt (small (goal.at.horizon_at-requires c).After-direction_at))
 
 pub returns : goal.returns
 unfolding place_from place_towards

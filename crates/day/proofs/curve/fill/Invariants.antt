@@ -1,12 +1,9 @@
 use mathlib.Core.Path.{◌≡◌}
-use Prim.Native.Nat.{◌-◌, ◌≤◌}
-use lib.ListN.{length, take}
-use Rattle.day.specs.Curve.{coordinate_from, each_below, minutes}
+use Prim.Native.Nat.{◌<◌, ℕ}
+use lib.IntN.{pos}
+use lib.ListN.{get_or, length}
+use Rattle.day.specs.Curve.{minutes}
 use Rattle.day.proofs.curve.fill.Given as goal
 
 abbrev pub invariant-loop-minute : goal.invariant-loop-minute
-invariant-loop-minute l =
-    (l.minute ≤ minutes) × (length l.curve ≡ minutes) × (take l.minute l.curve ≡ each_below (coordinate_from l.coordinate l.body l.runner l.date l.days) l.minute)
-
-abbrev pub decreases-loop-minute : goal.decreases-loop-minute
-decreases-loop-minute l = minutes - l.minute
+invariant-loop-minute g l = (length l.curve ≡ minutes) × ((m : ℕ) → m < l.minute → goal.F-post g l.at m (get_or l.curve m (pos 0)))

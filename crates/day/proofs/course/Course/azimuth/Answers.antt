@@ -1,0 +1,10 @@
+-- `course::Course::azimuth` meets its contract.
+use mathlib.Core.Path.{subst⁻¹}
+use Rattle.sky_vectors.specs.SkyRange.{Reachable}
+use Rattle.day.proofs.DateLaws.{minute_reachable}
+use Rattle.day.proofs.course.Course.azimuth.Goals as goal
+
+pub azimuth_from-requires : goal.azimuth_from-requires
+azimuth_from-requires c =
+    let course = c.args.self in
+    (course.stands, subst⁻¹ Reachable c.instant.ensures (minute_reachable course.accepted c.args.minute c.requires))
