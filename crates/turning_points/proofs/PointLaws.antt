@@ -1,13 +1,15 @@
 -- What the tests of a proposal say in plain words, and back.
-use mathlib.Core.Bool.{◌&&◌, false, not, true}
+use mathlib.Core.Bool.{Bool, ◌&&◌, false, not, true}
 use mathlib.Core.List.{List}
-use mathlib.Core.Path.{◌≡◌, ap}
+use mathlib.Core.Path.{◌∙◌, ◌≡◌, ap, refl, sym}
 use Prim.Native.Nat.{◌+◌, ◌-◌, ◌<◌, ◌≤◌, ℕ}
 use native.Mathlib.Omega.{arith}
-use lib.Dec.{eqb, leb}
-use lib.IntN.{ℤ}
-use lib.ListN.{length}
-use borrow.Author.Tests.{eq-eqb, eqb-false, eqb-true, le-leb, leb-false, leb-true, lt-leb, ne_eqb, not-false}
+use lib.Dec.{eqb, leb, lit<, ltb}
+use lib.IntN.{pos, ℤ}
+use lib.ListN.{get_or, length}
+use borrow.Author.Tests.{eq-eqb, eqb-false, eqb-true, le-leb, leb-false, leb-true, lt-leb, ltb-false, ltb-true, ne_eqb, not-false}
+use Rattle.std.specs.Bool.{MatchBool}
+use Rattle.std.specs.List.{AllWithin, HoldsAt, IsAllAdjacentAnswer}
 use Rattle.day.specs.Curve.{last_minute, minutes}
 use Rattle.heading.proofs.HeadingLaws.{below_turn}
 use Rattle.heading.specs.Heading.{clockwise, is_reduced}
@@ -15,7 +17,7 @@ use Rattle.number_rules.specs.Angle.{full_turn, half_turn}
 use Rattle.turning_points.specs.Arc.{are_opposite}
 use Rattle.turning_points.specs.Formed.{EveryPointsFormed, EveryPointsTurned, NeverOpposite, WellFormed}
 use Rattle.turning_points.specs.Points.{are_reduced, are_turned, at, azimuth, falls, is_counted, is_formed, is_rising, never_falls, not_reduced, opposite_next, signed_at}
-use Rattle.turning_points.proofs.SearchLaws.{and_both, and_intro, at_none, is_nowhere}
+use Rattle.turning_points.proofs.SearchLaws.{and_both, and_intro, at_none, is_nowhere, somewhere}
 
 -- ---- azimuths
 module _ (azimuths : List ℤ) where
@@ -100,3 +102,27 @@ points_formed list azimuths = (well_formed list azimuths, formed_when list azimu
 
 pub points_turned : EveryPointsTurned
 points_turned azimuths = (never_opposite azimuths, turned_apart azimuths)
+
+-- ---- what the library tells of a list
+pub rising_told : (list : List ℕ) (r : Bool) → IsAllAdjacentAnswer (λ x y b. b ≡ ltb x y) list r → r ≡ never_falls list
+unfolding never_falls falls
+rising_told list true f = sym (is_nowhere (falls list) (length list - 1) (λ i h. lt-leb (at list (i + 1)) (at list i) (ltb-true (at list i) (at list (i + 1)) (sym (f i 0 (omega arith))))))
+rising_told list false (k, h, f) = sym (somewhere (falls list) (length list - 1) k (omega arith) (le-leb (at list (k + 1)) (at list k) (ltb-false (at list k) (at list (k + 1)) (sym (f 0)))))
+
+pub reduced_told : (azimuths : List ℤ) (r : Bool)
+    → MatchBool r (AllWithin (λ x. is_reduced x ≡ true) azimuths 0 (length azimuths)) ((k : ℕ) × (k < length azimuths) × HoldsAt (λ x. is_reduced x ≡ false) azimuths k) → r ≡ are_reduced azimuths
+unfolding are_reduced not_reduced
+reduced_told azimuths true f = sym (is_nowhere (not_reduced azimuths) (length azimuths) (λ i h. ap not (f i (pos 0) (omega arith) h)))
+reduced_told azimuths false (k, h, f) = sym (somewhere (not_reduced azimuths) (length azimuths) k h (ap not (f (pos 0))))
+
+-- ---- neighbours, as a slice of their own
+pub pair_reduced : (azimuths pair : List ℤ) (i : ℕ) → are_reduced azimuths ≡ true → length pair ≡ 2 → i + 2 ≤ length azimuths
+    → ((k : ℕ) (d : ℤ) → k < 2 → get_or pair k d ≡ get_or azimuths (i + k) d) → are_reduced pair ≡ true
+pair_reduced azimuths pair i e two room same =
+    reduced_when pair (λ k h. ap is_reduced (same k (pos 0) (omega (arith, h))) ∙ reduced_at azimuths e (i + k) (omega (arith, h)))
+
+pub pair_opposite : (azimuths pair : List ℤ) (i : ℕ)
+    → ((k : ℕ) (d : ℤ) → k < 2 → get_or pair k d ≡ get_or azimuths (i + k) d) → opposite_next azimuths i ≡ are_opposite (azimuth pair 0) (azimuth pair 1)
+unfolding opposite_next
+pair_opposite azimuths pair i same = let here : i + 0 ≡ i = omega arith in
+    rw (same 0 (pos 0) (lit< tt), same 1 (pos 0) (lit< tt), here) refl
