@@ -2,7 +2,7 @@
 use mathlib.Core.Bool.{Bool, ◌&&◌, ◌||◌, cond, false, true}
 use mathlib.Core.List.{[]}
 use mathlib.Core.Logic.{◌⊎◌, inl, inr, ⊎_elim}
-use mathlib.Core.Path.{◌∙◌, ◌≡◌, ap, refl, subst, sym}
+use mathlib.Core.Path.{◌≡◌, ap, refl, subst, sym}
 use Prim.Native.Nat.{◌<◌, ◌≤◌, ℕ}
 use native.Mathlib.Nat.{div-le_self, le_refl}
 use native.Mathlib.Omega.{arith}
@@ -10,16 +10,14 @@ use lib.Dec.{eqb, leb, lit≤, ltb}
 use lib.IntN.{nat_abs, negsuc, pos, ℤ}
 use lib.ListN.{drop}
 use lib.Signed.{le_z}
-use borrow.Author.Tests.{eqb-false, eqb-true, le-leb, leb-true, ltb-true}
-use mir.Syntax.{w64}
-use mir.Val.{SFits, of_z}
-use mir.ValLaws.{to_z-of_z}
+use borrow.Author.Tests.{eqb-true, le-leb, leb-true, ltb-true}
+use Rattle.std.proofs.lemmas.Bool.Decides.{Decides-int_eq, same_from_decides}
+use Rattle.std.specs.Ordering.{int_eq}
 use Rattle.calendar.proofs.RefusalLaws.{none, passes}
 use Rattle.calendar.specs.Refusal.{◌unless◌, first}
 use Rattle.day.specs.Curve.{minutes}
 use Rattle.number_rules.proofs.CalendarLaws.{length_most}
 use Rattle.number_rules.specs.Calendar.{DayAnswer, day_count, days_from_2000, month_length}
-use Rattle.numbers.proofs.Machine.{same_bits}
 use Rattle.numbers.specs.Whole.{between}
 use Rattle.octets.proofs.FieldLaws.{off}
 use Rattle.octets.specs.Again.{InHalves}
@@ -49,15 +47,9 @@ same_self (negsuc n) = simp (le-leb n n (le_refl n))
 pub same_tells : SameTells
 same_tells a b = (same_is a b, λ e. subst (λ (z : ℤ). same a z ≡ true) e (same_self a))
 
--- the machine compares their bits
-pub tested_same : (a b : ℤ) → SFits w64 a → SFits w64 b → eqb (of_z w64 a) (of_z w64 b) ≡ same a b
-tested_same a b f g = by_test (eqb (of_z w64 a) (of_z w64 b)) refl (same a b) refl
-  where
-    by_test : (p : Bool) → eqb (of_z w64 a) (of_z w64 b) ≡ p → (q : Bool) → same a b ≡ q → p ≡ q
-    by_test true e true t = refl
-    by_test false e false t = refl
-    by_test true e false t = absurd (off (sym t ∙ (same_tells a b).1 (same_bits f.sfits (eqb-true (of_z w64 a) (of_z w64 b) e) ∙ to_z-of_z w64 b g)))
-    by_test false e true t = absurd (eqb-false (of_z w64 a) (of_z w64 b) e (ap (of_z w64) (same_is a b t)))
+-- std's test is the same
+pub int_same : (a b : ℤ) → int_eq a b ≡ same a b
+int_same a b = same_from_decides (int_eq a b) (same a b) (Decides-int_eq a b) (same_tells a b)
 
 -- ---- numbers that are not below zero, and not above a limit
 

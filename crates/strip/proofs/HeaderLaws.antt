@@ -1,31 +1,18 @@
 -- The numbers of a header in the machine: casts, and two's complement of four octets.
-use mathlib.Core.Bool.{false, true}
-use mathlib.Core.Path.{◌∙◌, ◌≡◌, refl, subst⁻¹, sym}
-use Prim.Native.Nat.{◌*◌, ◌-◌, ◌<◌, ◌^◌, ◌≤◌, suc, ℕ}
+use mathlib.Core.Bool.{Bool, cond, false, true}
+use mathlib.Core.Path.{◌∙◌, ◌≡◌, ap, refl, subst⁻¹}
+use Prim.Native.Nat.{◌*◌, ◌-◌, ◌<◌, ◌^◌, suc, ℕ}
 use native.Mathlib.Omega.{arith}
-use lib.Dec.{T}
-use lib.IntN.{◌+ℤ◌, ◌-ℤ◌, nat_abs, negsuc, pos, ℤ}
-use lib.Signed.{◌<ℤ◌, ◌≤ℤ◌, clash_ℤ, non_neg}
-use borrow.Author.Tests.{le-ltb, lt-ltb}
+use lib.Dec.{T, leb, ltb}
+use lib.IntN.{nat_abs, negsuc, pos, ℤ}
+use lib.Signed.{mag, non_neg}
+use borrow.Author.Tests.{le-ltb, leb-false, leb-true, lt-ltb}
 use mir.Syntax.{w32, w64}
 use mir.Val.{Fits, SFits, of_z, to_z}
 use mir.ValLaws.{to_z-of_z}
-use Rattle.numbers.proofs.Machine.{from_nat, nat_fits}
-use Rattle.arithmetic.proofs.Difference.{#◌, ◌⊞◌, ◌⊟ℤ◌, by_eq, by_le, ⟨◌⟩}
 use Rattle.octets.specs.Again.{InHalves}
 use Rattle.octets.specs.Octets.{complement, from_complement}
 use Rattle.strip.proofs.CheckLaws.{Natural}
-
--- a number of 32 bits, cast to 64
-module _ {n : ℕ} (small : Fits w32 n) where
-  within : n ≤ 2 ^ 32
-  within = omega (arith, small.fits)
-
-  pub cast_wide : SFits w64 (pos n)
-  cast_wide = nat_fits within tt
-
-  pub wide_same : to_z w64 n ≡ pos n
-  wide_same = (from_nat within tt).same
 
 -- a number that is known to be natural, cast to 32 bits
 pub to_narrow : {z : ℤ} {n : ℕ} → z ≡ pos n → n < 2 ^ 32 → T (non_neg z) × Fits w32 (nat_abs z)
@@ -40,37 +27,31 @@ module _ {z : ℤ} {least most : ℕ} (n : Natural least most z) (small : most <
 
 -- ---- two's complement
 
-pub below_zero : (z : ℤ) → z <ℤ pos 0 → non_neg z ≡ false
-below_zero (pos n) h = absurd (clash_ℤ h (zero_least n))
-  where
-    zero_least : (n : ℕ) → pos 0 ≤ℤ pos n
-    zero_least n = by_le (# 0) (# n) (omega arith)
-below_zero (negsuc n) h = refl
-
-pub not_below_zero : (z : ℤ) → pos 0 ≤ℤ z → non_neg z ≡ true
-not_below_zero (pos n) h = refl
-not_below_zero (negsuc n) h = absurd h.le
-
-pub halves_size : (z : ℤ) → InHalves 4 z → nat_abs z ≤ 2_147_483_648
-halves_size (pos n) h = omega arith
-halves_size (negsuc n) h = omega arith
-
-pub complement_below : (z : ℤ) → InHalves 4 z → non_neg z ≡ false → pos 4_294_967_296 +ℤ z ≡ pos (complement 4 z)
-unfolding complement
-complement_below (pos n) h e = absurd (subst⁻¹ T (sym e) tt)
-complement_below (negsuc n) h e = by_eq (# 4_294_967_296 ⊞ ⟨ negsuc n ⟩) (# (4_294_967_296 - suc n)) (omega arith)
-
-pub complement_above : (z : ℤ) → non_neg z ≡ true → z ≡ pos (complement 4 z)
-unfolding complement
-complement_above (pos n) e = refl
-complement_above (negsuc n) e = absurd (subst⁻¹ T e tt)
-
 module _ (n : ℕ) where
-  pub signed_low : n < 2_147_483_648 → from_complement 4 n ≡ pos n
+  pub signed : to_z w32 n ≡ from_complement 4 n
   unfolding from_complement
-  signed_low h = simp (lt-ltb (2 * n) (256 ^ 4) (omega arith))
+  signed = by_half (leb 2_147_483_648 n) refl
+    where
+      by_half : (p : Bool) → leb 2_147_483_648 n ≡ p → to_z w32 n ≡ cond (ltb (2 * n) (256 ^ 4)) (pos n) (negsuc (256 ^ 4 - suc n))
+      by_half true e = simp (le-ltb n 2_147_483_648 (leb-true 2_147_483_648 n e), le-ltb (2 * n) (256 ^ 4) (omega (arith, leb-true 2_147_483_648 n e)))
+      by_half false e = simp (lt-ltb n 2_147_483_648 (leb-false 2_147_483_648 n e), lt-ltb (2 * n) (256 ^ 4) (omega (arith, leb-false 2_147_483_648 n e)))
 
-  pub signed_high : 2_147_483_648 ≤ n → n < 4_294_967_296 → from_complement 4 n ≡ pos n -ℤ pos 4_294_967_296
-  unfolding from_complement
-  signed_high l h =
-      simp (le-ltb (2 * n) (256 ^ 4) (omega arith)) (sym (by_eq (# n ⊟ℤ # 4_294_967_296) ⟨ negsuc (4_294_967_296 - suc n) ⟩ (omega arith)))
+-- a number that has room in four octets, cast to a signed one of 32 bits, and what its bits are
+module _ {z : ℤ} (halves : InHalves 4 z) where
+  narrow : SFits w32 z
+  narrow = record { sfits = in_half z halves }
+    where
+      in_half : (z : ℤ) → InHalves 4 z → mag z < 2 ^ 31
+      in_half (pos n) h = omega arith
+      in_half (negsuc n) h = omega arith
+
+  pub cast_narrow : {y : ℤ} → y ≡ z → SFits w32 y
+  cast_narrow e = subst⁻¹ (SFits w32) e narrow
+
+  pub unsigned : {y : ℤ} → y ≡ z → of_z w32 (to_z w32 (of_z w32 y)) ≡ complement 4 z
+  unfolding complement
+  unsigned {y} e = ap (of_z w32) (to_z-of_z w32 y (cast_narrow e) ∙ e) ∙ its_bits z
+    where
+      its_bits : (z : ℤ) → of_z w32 z ≡ complement 4 z
+      its_bits (pos n) = refl
+      its_bits (negsuc n) = refl

@@ -1,13 +1,11 @@
 // What a strip says beside its azimuths, and the ten numbers that say it.
 ghost use Rattle.std.specs.Prelude.{◌≡◌, ◌≤◌, length};
-ghost use Rattle.octets.specs.Again.{InHalves};
-ghost use Rattle.octets.specs.Octets.{complement, from_complement};
 ghost use Rattle.calendar.specs.Refusal.{first};
 ghost use Rattle.day.specs.Curve.{minutes};
 ghost use Rattle.strip.specs.Checks.{header_refusals};
-ghost use Rattle.strip.specs.Format.{body_byte, body_in, field_count, fields, header_in, header_numbers, header_size};
+ghost use Rattle.strip.specs.Format.{body_in, fields, header_in, header_numbers, header_size};
 
-use super::air::{StripAir, WRITTEN_AIR, air_in};
+use super::air::{StripAir, WRITTEN_AIR};
 use octets::fields::read_fields;
 use sky_vectors::geocentric::Body;
 
@@ -40,44 +38,10 @@ pub const LENGTH: usize = 2;
 
 pub const VERSION: u32 = 1;
 
-fn body_byte(body: Body) -> u32
-    ensures { result ≡ body_byte body }
-{
-    match body {
-        Body::Sun => 0,
-        Body::Moon => 1,
-    }
-}
-
 fn body_in(byte: u32) -> Body
     ensures { result ≡ body_in byte }
 {
     if byte == 0 { Body::Sun } else { Body::Moon }
-}
-
-// What four octets hold, and half of it: from there on they are below zero.
-const WHOLE: i64 = 4_294_967_296;
-
-const HALF: u32 = 2_147_483_648;
-
-// Two's complement of four octets, and back.
-fn signed(n: u32) -> i64
-    ensures { result ≡ from_complement 4 n }
-{
-    if n < HALF {
-        return n as i64;
-    }
-    n as i64 - WHOLE
-}
-
-fn unsigned(z: i64) -> u32
-    requires { InHalves 4 z }
-    ensures { result ≡ complement 4 z }
-{
-    if z < 0 {
-        return (WHOLE + z) as u32;
-    }
-    z as u32
 }
 
 // The ten numbers of a strip's header.
@@ -90,39 +54,42 @@ pub fn fields_in(strip: &[u8]) -> [u32; FIELDS]
     numbers
 }
 
-// What ten numbers say.
-pub fn header_in(numbers: &[u32]) -> Header
-    requires { length numbers.now ≡ field_count }
-    ensures { result ≡ header_in numbers.now }
-{
-    Header {
-        air: air_in(numbers[2]),
-        body: body_in(numbers[3]),
-        year: numbers[4] as i64,
-        month: numbers[5] as i64,
-        day: numbers[6] as i64,
-        longitude: signed(numbers[7]),
-        latitude: signed(numbers[8]),
-        step: numbers[9] as i64,
+// What ten numbers say. Longitude and latitude are in two's complement.
+impl From<[u32; FIELDS]> for Header {
+    ghost from_gives = { λ numbers header. header ≡ header_in numbers };
+
+    fn from(numbers: [u32; FIELDS]) -> Header {
+        let [_, _, air, body, year, month, day, longitude, latitude, step] = numbers;
+        Header {
+            air: StripAir::from(air),
+            body: body_in(body),
+            year: i64::from(year),
+            month: i64::from(month),
+            day: i64::from(day),
+            longitude: i64::from(longitude.cast_signed()),
+            latitude: i64::from(latitude.cast_signed()),
+            step: i64::from(step),
+        }
     }
 }
 
-// The ten numbers that say it, with so many azimuths behind them.
-pub fn numbers_of(header: Header, count: usize) -> [u32; FIELDS]
-    requires { (first (header_refusals header) ≡ 0) × (count ≤ minutes) }
-    ensures { result ≡ header_numbers header count }
-{
-    let body = header.body;
-    [
-        (HEADER - LENGTH + AZIMUTH * count) as u32,
-        VERSION,
-        WRITTEN_AIR,
-        body_byte(body),
-        header.year as u32,
-        header.month as u32,
-        header.day as u32,
-        unsigned(header.longitude),
-        unsigned(header.latitude),
-        header.step as u32,
-    ]
+impl Header {
+    // The ten numbers that say it, with so many azimuths behind them.
+    pub fn numbers(self, count: usize) -> [u32; FIELDS]
+        requires { (first (header_refusals self) ≡ 0) × (count ≤ minutes) }
+        ensures { result ≡ header_numbers self count }
+    {
+        [
+            (HEADER - LENGTH + AZIMUTH * count) as u32,
+            VERSION,
+            WRITTEN_AIR,
+            self.body as u32,
+            self.year as u32,
+            self.month as u32,
+            self.day as u32,
+            (self.longitude as i32).cast_unsigned(),
+            (self.latitude as i32).cast_unsigned(),
+            self.step as u32,
+        ]
+    }
 }

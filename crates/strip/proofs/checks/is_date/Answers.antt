@@ -1,47 +1,32 @@
 -- `checks::is_date` meets its contract.
-use mathlib.Core.Path.{◌∙◌, ◌≡◌, ap, sym}
+use mathlib.Core.Path.{◌∙◌, ◌≡◌, ap, refl, sym}
 use lib.Dec.{eqb}
+use lib.IntN.{ℤ}
 use borrow.Author.Rules.{rules}
 use borrow.Author.Tests.{ne_eqb}
 use mir.Syntax.{w64}
 use mir.Val.{SFits}
+use Rattle.std.specs.Prelude.{Err, Ok, Result}
+use Rattle.std.specs.Result.{is_ok}
 use Rattle.calendar.proofs.RefusalLaws.{never_none}
 use Rattle.calendar.specs.DayCount.{count_answer}
+use Rattle.calendar.specs.Refusal.{number}
+use Rattle.calendar.specs.declared.refusal.Refusal.{Refusal}
 use Rattle.number_rules.specs.Calendar.{DayAnswer, day_count}
 use Rattle.numbers.proofs.Machine.{any}
 use Rattle.strip.specs.Checks.{is_date}
 use Rattle.strip.proofs.checks.is_date.Goals as goal
-use Rattle.strip.proofs.checks.is_date.Goals.{After-day_count, Start}
 
--- the day count of the header's date
-module _ (c : After-day_count) where
-  abbrev s : Start
-  s = (goal.at.After-day_count c).Start
+-- days are counted where nothing refuses them
+counted : (r : Result ℤ Refusal) → is_ok r ≡ eqb (count_answer r).refusal 0
+counted (Ok days) = refl
+counted (Err refusal) = sym (ne_eqb (number refusal) 0 (never_none refusal))
 
-  year_fits : SFits w64 s.args.header.year
-  year_fits = search rules
-
-  month_fits : SFits w64 s.args.header.month
-  month_fits = search rules
-
-  day_fits : SFits w64 s.args.header.day
-  day_fits = search rules
-
-  counted : count_answer c.day_count.result ≡ day_count s.args.header.year s.args.header.month s.args.header.day
-  counted = c.day_count.ensures.equal ∙ (λ i. day_count ((any year_fits).same i) ((any month_fits).same i) ((any day_fits).same i))
-
-pub enum_told-1 : goal.enum_told-1
-enum_told-1 c = search rules
-
-pub returns-in-Days : goal.returns-in-Days
+pub returns : goal.returns
 unfolding is_date
-returns-in-Days c =
-    let k = (goal.at.returns-in-Days c).After-day_count in
-    ap (λ (a : DayAnswer). eqb a.refusal 0) (sym (ap count_answer c.in-Days.is) ∙ counted k)
-
-pub returns-in-Refused : goal.returns-in-Refused
-unfolding is_date
-returns-in-Refused c =
-    let k = (goal.at.returns-in-Refused c).After-day_count in
-    let refusal = c.in-Refused.field-0 in
-    sym (ne_eqb _ 0 (never_none refusal)) ∙ ap (λ (a : DayAnswer). eqb a.refusal 0) (sym (ap count_answer c.in-Refused.is) ∙ counted k)
+returns c =
+    let year : SFits w64 c.args.header.year = search rules in
+    let month : SFits w64 c.args.header.month = search rules in
+    let day : SFits w64 c.args.header.day = search rules in
+    c.is_ok.ensures.value ∙ counted c.day_count.result
+    ∙ ap (λ (a : DayAnswer). eqb a.refusal 0) (c.day_count.ensures.equal ∙ (λ i. day_count ((any year).same i) ((any month).same i) ((any day).same i)))

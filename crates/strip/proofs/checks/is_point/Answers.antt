@@ -1,43 +1,49 @@
 -- `checks::is_point` meets its contract.
-use mathlib.Core.Path.{◌∙◌, ◌≡◌}
-use lib.IntN.{pos}
+use mathlib.Core.Bool.{Bool, ◌&&◌, false, true}
+use mathlib.Core.List.{[], ◌∷◌}
+use mathlib.Core.Path.{◌∙◌, ◌≡◌, ap, refl, sym}
+use lib.Dec.{eqb}
+use lib.IntN.{ℤ, pos}
 use borrow.Author.Rules.{rules}
+use borrow.Author.Tests.{ne_eqb}
 use mir.Syntax.{w64}
 use mir.Val.{SFits}
+use Rattle.std.specs.Prelude.{Err, Ok}
+use Rattle.std.specs.Result.{is_ok}
+use Rattle.calendar.proofs.RefusalLaws.{never_none}
+use Rattle.calendar.specs.Refusal.{Verdict, ◌unless◌, first, number, verdict_number}
+use Rattle.numbers.proofs.Machine.{any}
 use Rattle.numbers.specs.Whole.{between}
-use Rattle.request.proofs.RequestLaws.{tested}
+use Rattle.request.specs.Request.{point_refusals}
 use Rattle.sky_vectors.specs.SkyRange.{latitude_limit, longitude_limit}
 use Rattle.sum_rules.specs.Instant.{minus}
 use Rattle.strip.specs.Checks.{is_point}
 use Rattle.strip.proofs.checks.is_point.Goals as goal
-use Rattle.strip.proofs.checks.is_point.Goals.{After-is_between, After-is_between-2, Else-not-is_between, Start}
 
-module _ (s : Start) where
-  longitude_fits : SFits w64 s.args.header.longitude
-  longitude_fits = search rules
+-- a check passes where it has no number
+passed : (r : Verdict) → is_ok r ≡ eqb (verdict_number r) 0
+passed (Ok _) = refl
+passed (Err refusal) = sym (ne_eqb (number refusal) 0 (never_none refusal))
 
-  latitude_fits : SFits w64 s.args.header.latitude
-  latitude_fits = search rules
+-- 7 and 8 are left where 9 passes
+module _ (longitude latitude : ℤ) where
+  both : (a b : Bool) → eqb (first (7 unless a ∷ 8 unless b ∷ 0 ∷ [])) 0 ≡ (a && b)
+  unfolding first
+  both true true = refl
+  both true false = refl
+  both false b = refl
 
--- what each call told
-module _ (c : After-is_between) where
-  abbrev s₁ : Start
-  s₁ = (goal.at.After-is_between c).Start
-
-  longitude : between (minus longitude_limit) s₁.args.header.longitude (pos longitude_limit) ≡ c.is_between.result
-  longitude = tested (minus longitude_limit) s₁.args.header.longitude (pos longitude_limit) (longitude_fits s₁) c.is_between.ensures
-
-module _ (c : After-is_between-2) where
-  abbrev first : After-is_between
-  first = (goal.at.After-is_between-2 c).After-is_between
-
-  latitude : between (minus latitude_limit) (s₁ first).args.header.latitude (pos latitude_limit) ≡ c.is_between-2.result
-  latitude = tested (minus latitude_limit) (s₁ first).args.header.latitude (pos latitude_limit) (latitude_fits (s₁ first)) c.is_between-2.ensures
-
-pub returns-then-not-is_between : goal.returns-then-not-is_between
-unfolding is_point
-returns-then-not-is_between c = simp (longitude (goal.at.returns-then-not-is_between c).After-is_between ∙ c.if-not-is_between.true)
+  judged : eqb (first (point_refusals (record { longitude = longitude; latitude = latitude; height = pos 0 }))) 0
+      ≡ (between (minus longitude_limit) longitude (pos longitude_limit) && between (minus latitude_limit) latitude (pos latitude_limit))
+  unfolding between
+  judged = both (between (minus longitude_limit) longitude (pos longitude_limit)) (between (minus latitude_limit) latitude (pos latitude_limit))
 
 pub returns : goal.returns
 unfolding is_point
-returns c = let e = (goal.at.returns c).Else-not-is_between in simp (longitude (goal.at.Else-not-is_between e).After-is_between ∙ e.if-not-is_between.false, latitude (goal.at.returns c).After-is_between-2)
+returns c =
+    let longitude : SFits w64 c.args.header.longitude = search rules in
+    let latitude : SFits w64 c.args.header.latitude = search rules in
+    c.is_ok.ensures.value ∙ passed c.point_verdict.result
+    ∙ ap (λ n. eqb n 0) c.point_verdict.ensures
+    ∙ judged _ _
+    ∙ (λ i. between (minus longitude_limit) ((any longitude).same i) (pos longitude_limit) && between (minus latitude_limit) ((any latitude).same i) (pos latitude_limit))
