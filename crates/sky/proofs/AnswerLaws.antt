@@ -2,11 +2,13 @@
 use mathlib.Core.Bool.{Bool, cond, true, false}
 use mathlib.Core.Path.{◌∙◌, ◌≡◌, ap, refl, subst⁻¹, sym}
 use Prim.Native.Nat.{ℕ}
+use lib.Ieee.{Float}
 use lib.Dec.{eqb}
+use Rattle.std.specs.Prelude.{None, Option, Result, Some}
 use borrow.Author.Tests.{eq-eqb, eqb-true, ne_eqb}
 use Rattle.calendar.specs.Refusal.{OneAnswer, first, number}
 use Rattle.calendar.specs.declared.refusal.Refusal.{Refusal}
-use Rattle.calendar.proofs.RefusalLaws.{never_none, number_tells, numbered, one_answer, read_back}
+use Rattle.calendar.proofs.RefusalLaws.{never_none, numbered, one_answer, read_back, result_tells}
 use Rattle.refraction.specs.declared.air.Air.{Air}
 use Rattle.request.specs.Request.{instant}
 use Rattle.request.specs.declared.start.Start.{Start}
@@ -16,12 +18,8 @@ use Rattle.sky_vectors.specs.declared.geocentric.Body.{Body}
 use Rattle.sky_vectors.specs.declared.place.Place.{Place}
 use Rattle.sky_vectors.specs.declared.station.Point.{Point}
 use Rattle.arctangent.proofs.ArctangentLaws.{direction_tells}
-use Rattle.sky.specs.Answer.{Answer, PlaceNumbers, judged, nowhere, place, place_answer, place_numbers, request_refusals, shown_answer}
-use Rattle.sky.specs.Shown.{nothing_shown}
-use Rattle.sky.specs.declared.answer.PlaceAnswer.{PlaceAnswer}
-use Rattle.sky.specs.declared.answer.PlaceAnswer.TheVariants as Places
-use Rattle.sky.specs.declared.answer.ShownAnswer.{ShownAnswer}
-use Rattle.sky.specs.declared.answer.ShownAnswer.TheVariants as Shows
+use Rattle.sky.specs.Answer.{Answer, PlaceNumbers, answered, judged, nowhere, place, place_answer, place_numbers, request_refusals, shown_answer}
+use Rattle.sky.specs.Shown.{ShownNumbers, shown_numbers}
 use Rattle.sky.specs.declared.shown.Shown.{Shown}
 
 module _ {A : Type 0} (refusal : ℕ) (zeros value : A) where
@@ -65,22 +63,22 @@ module _ {E A : Type 0} (given : A → E) (refused : Refusal → E) where
   pub one_from : {answer : E → Answer A} → ((x : E) → from_answer (answer x) ≡ x) → {found : E} {rule : Answer A} → answer found ≡ rule → OneAnswer answer rule found
   one_from back = one_answer (λ x y same. sym (back x) ∙ ap from_answer same ∙ back y)
 
+-- a result whose values are told apart by their numbers is told apart by its answer
+pub one_answered : {A B : Type 0} {numbers : A → B} {zeros : B} → ((x y : A) → numbers x ≡ numbers y → x ≡ y)
+    → {found : Result A Refusal} {rule : Answer B} → answered numbers zeros found ≡ rule → OneAnswer (answered numbers zeros) rule found
+one_answered {A} {B} {numbers} {zeros} tells =
+    one_answer (result_tells (answered numbers zeros) (λ a. a.refusal) (λ x. refl) (λ x. refl) (λ x y same. tells x y (ap (λ (a : Answer B). a.value) same)))
+
 pub numbers_tell : (p q : Place) → place_numbers p ≡ place_numbers q → p ≡ q
 numbers_tell p q same =
     let azimuth = direction_tells p.azimuth q.azimuth (ap (λ (n : PlaceNumbers). n.has_azimuth) same) (ap (λ (n : PlaceNumbers). n.azimuth) same) in
     λ i. record { azimuth = azimuth i; elevation = ap (λ (n : PlaceNumbers). n.elevation) same i }
 
-place_tells : (x y : PlaceAnswer) → place_answer x ≡ place_answer y → x ≡ y
-place_tells (Places.Seen p) (Places.Seen q) same = ap Places.Seen (numbers_tell p q (ap (λ (a : Answer PlaceNumbers). a.value) same))
-place_tells (Places.Seen p) (Places.Refused r) same = absurd (never_none r (sym (ap (λ (a : Answer PlaceNumbers). a.refusal) same)))
-place_tells (Places.Refused r) (Places.Seen p) same = absurd (never_none r (ap (λ (a : Answer PlaceNumbers). a.refusal) same))
-place_tells (Places.Refused r) (Places.Refused s) same = ap Places.Refused (number_tells r s (ap (λ (a : Answer PlaceNumbers). a.refusal) same))
-
-pub one_place : {found : PlaceAnswer} {rule : Answer PlaceNumbers} → place_answer found ≡ rule → OneAnswer place_answer rule found
-one_place = one_answer place_tells
+pub one_place : {found : Result Place Refusal} {rule : Answer PlaceNumbers} → place_answer found ≡ rule → OneAnswer place_answer rule found
+one_place = one_answered numbers_tell
 
 -- a place that is answered: nothing refuses it, it is the rule's, and it is in turns
-module _ (start : Start) (body : Body) (point : Point) (air : Air) (found : Place)
+module _ (start : Start) (body : Body) (point : Point) (air : Option Air) (found : Place)
     (same : record { refusal = 0; value = place_numbers found } ≡ place start body point air) where
   passed : (first (request_refusals start point air) ≡ 0) × (place_numbers found ≡ place_numbers (place_at body point (instant start)))
   unfolding place
@@ -95,9 +93,24 @@ module _ (start : Start) (body : Body) (point : Point) (air : Air) (found : Plac
   pub found_in_turns : InTurns found
   found_in_turns = subst⁻¹ InTurns place_found (place_at_in_turns body point (instant start))
 
-shown_back : (x : ShownAnswer) → from_answer Shows.Seen Shows.Refused (shown_answer x) ≡ x
-shown_back (Shows.Seen p) = refl
-shown_back (Shows.Refused r) = refused_back Shows.Seen Shows.Refused nothing_shown r
+-- one shown place and no other has its numbers
+shown_back : ShownNumbers → Shown
+shown_back n = record { azimuth = cond n.has_azimuth (Some n.azimuth) None; elevation = n.elevation; refraction = n.refraction }
 
-pub one_shown : {found : ShownAnswer} {rule : Answer Shown} → shown_answer found ≡ rule → OneAnswer shown_answer rule found
-one_shown = one_from Shows.Seen Shows.Refused shown_back
+shown_is_back : (p : Shown) → shown_back (shown_numbers p) ≡ p
+unfolding shown_back
+shown_is_back p = go p.azimuth
+  where
+    go : (azimuth : Option Float) → shown_back (shown_numbers (record { azimuth = azimuth; elevation = p.elevation; refraction = p.refraction }))
+        ≡ record { azimuth = azimuth; elevation = p.elevation; refraction = p.refraction }
+    go (Some azimuth) = refl
+    go None = refl
+
+pub shown_tell : (p q : Shown) → shown_numbers p ≡ shown_numbers q → p ≡ q
+shown_tell p q same = sym (shown_is_back p) ∙ ap shown_back same ∙ shown_is_back q
+
+pub one_numbers : {found : Shown} {rule : ShownNumbers} → shown_numbers found ≡ rule → OneAnswer shown_numbers rule found
+one_numbers = one_answer shown_tell
+
+pub one_shown : {found : Result Shown Refusal} {rule : Answer ShownNumbers} → shown_answer found ≡ rule → OneAnswer shown_answer rule found
+one_shown = one_answered shown_tell

@@ -1,20 +1,19 @@
 // The place as it is shown, in degrees.
 ghost use Rattle.std.specs.Prelude.{◌≡◌, ◌≤◌, nat_abs};
 ghost use Rattle.number_rules.specs.Angle.{full_turn};
-ghost use Rattle.number_rules.specs.SineTable.{sines};
+ghost use Rattle.calendar.specs.Refusal.{OneAnswer};
 ghost use Rattle.sky_vectors.specs.Place.{InTurns};
-ghost use Rattle.sky.specs.Shown.{degrees, shown};
+ghost use Rattle.sky.specs.Shown.{degrees, shown, shown_numbers};
 
-use arctangent::direction::{angle_or, is_there};
+use arctangent::direction::angle_or;
 use refraction::air::Air;
 use refraction::formula::refraction;
 use sky_vectors::place::Place;
 
-// The elevation has the refraction in it. Where there is no azimuth, it is 0.
+// The elevation has the refraction in it.
 #[derive(Clone, Copy)]
 pub struct Shown {
-    pub has_azimuth: bool,
-    pub azimuth: f64,
+    pub azimuth: Option<f64>,
     pub elevation: f64,
     pub refraction: f64,
 }
@@ -27,16 +26,14 @@ fn degrees(x: i64) -> f64
     x as f64 / 100_000_000.0
 }
 
-pub fn shown_at(table: &[u32; 361], air: Air, place: Place) -> Shown
-    requires { (table.now ≡ sines) × InTurns place }
-    ensures { result ≡ shown air place }
+pub fn shown_at(air: Option<Air>, place: Place) -> Shown
+    requires { InTurns place }
+    ensures { OneAnswer shown_numbers (shown air place) result }
 {
-    let azimuth = place.azimuth;
     let e = place.elevation;
-    let refraction = refraction(table, air, e);
+    let refraction = refraction(air, e);
     Shown {
-        has_azimuth: is_there(azimuth),
-        azimuth: degrees(angle_or(0, azimuth)),
+        azimuth: place.azimuth.map(|angle| degrees(angle.units as i64)),
         elevation: degrees(e) + refraction,
         refraction,
     }
