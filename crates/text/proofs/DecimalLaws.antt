@@ -1,69 +1,18 @@
--- Digits of a number, and texts that grow.
+-- Digits of a number.
 use mathlib.Core.Bool.{Bool, false, true}
-use mathlib.Core.List.{List, [], ◌∷◌, ◌++◌, append_assoc, append-nil}
-use mathlib.Core.Path.{◌∙◌, ◌≡◌, ap, refl, subst, sym}
+use mathlib.Core.List.{List, [], ◌∷◌, ◌++◌, append_assoc}
+use mathlib.Core.Path.{◌∙◌, ◌≡◌, ap, refl, subst}
 use Prim.Native.Nat.{◌%◌, ◌+◌, ◌-◌, ◌/◌, ◌<◌, ◌^◌, ◌≤◌, suc, zero, ℕ}
-use native.Mathlib.Nat.{add-suc, add-zero, div-lt_iff_lt-mul, not-suc-le-zero, pow-suc, suc-add}
+use native.Mathlib.Nat.{div-lt_iff_lt-mul, not-suc-le-zero, pow-suc}
 use native.Mathlib.Numerals.{add-one}
 use native.Mathlib.Omega.{arith}
 use lib.Dec.{ltb, ltb→lt}
 use lib.IntN.{nat_abs, negsuc, pos, ℤ}
-use lib.ListN.{drop, length, length-append, set, take}
-use lib.Seq.{length-take-le, sets, sets-eq, take_at}
+use lib.ListN.{length, length-append}
 use lib.Signed.{◌<ℤ◌, ◌≤ℤ◌}
 use borrow.Author.Tests.{le-ltb, lt-ltb, ltb-false, ltb-true}
-use Rattle.text.specs.Decimal.{Appended, ◌followed_by◌, decimal, decimals, digits, last_digits, padded, point, signed, with_point, written}
+use Rattle.text.specs.Decimal.{decimal, decimals, digits, last_digits, padded, point, sign, signed, with_point}
 use Rattle.text.specs.Line.{minus}
-use Rattle.text.specs.declared.decimal.Text.{Text}
-
--- stores of one list after another
-sets_append : (added more bytes : List ℕ) (at : ℕ) → sets bytes at (added ++ more) ≡ sets (sets bytes at added) (at + length added) more
-sets_append [] more bytes at = ap (λ (n : ℕ). sets bytes n more) (sym (add-zero at))
-sets_append (byte ∷ rest) more bytes at =
-    sets_append rest more (set bytes at byte) (suc at) ∙ ap (λ (n : ℕ). sets (sets (set bytes at byte) (suc at) rest) n more) (suc-add at (length rest) ∙ sym (add-suc at (length rest)))
-
-followed_twice : (text : Text) (added more : List ℕ) → (text followed_by added followed_by more) ≡ (text followed_by (added ++ more))
-unfolding ◌followed_by◌
-followed_twice text added more i =
-    record {
-      bytes = sym (sets_append added more text.bytes text.length) i;
-      length = (sums text.length (length added) (length more) ∙ ap (λ (n : ℕ). text.length + n) (sym (length-append added more))) i;
-    }
-  where
-    sums : (a b c : ℕ) → a + b + c ≡ a + (b + c)
-    sums a b c = omega arith
-
--- where there is room, the bytes in use are the old ones and the new ones
-module _ (text : Text) (added : List ℕ) (h : text.length + length added ≤ length text.bytes) where
-  in_use_then : written (text followed_by added) ≡ written text ++ added
-  unfolding ◌followed_by◌
-  in_use_then =
-      ap (take (text.length + length added)) (sets-eq added text.bytes text.length h)
-      ∙ take_at (written text ++ added) (drop (text.length + length added) text.bytes) (text.length + length added)
-      (length-append (written text) added ∙ ap (λ (n : ℕ). n + length added) (length-take-le text.length text.bytes (omega arith)))
-
-  pub appended : {next : Text} → next ≡ (text followed_by added) → Appended text added next
-  appended e = record { whole = e; in_use = ap written e ∙ in_use_then }
-
-pub appended_none : (text : Text) → Appended text [] text
-unfolding ◌followed_by◌
-appended_none text =
-    record {
-      whole = λ i. record { bytes = text.bytes; length = sym (add-zero text.length) i };
-      in_use = sym (append-nil (written text));
-    }
-
-pub appended_twice : {text middle next : Text} {added more : List ℕ} → Appended text added middle → Appended middle more next
-    → Appended text (added ++ more) next
-appended_twice {text} {added} {more} a b =
-    record {
-      whole = b.whole ∙ ap (λ (t : Text). t followed_by more) a.whole ∙ followed_twice text added more;
-      in_use = b.in_use ∙ ap (λ (s : List ℕ). s ++ more) a.in_use ∙ append_assoc (written text) added more;
-    }
-
-pub appended_length : {text next : Text} {added : List ℕ} → Appended text added next → next.length ≡ text.length + length added
-unfolding ◌followed_by◌
-appended_length a = ap (λ (t : Text). t.length) a.whole
 
 -- ---- digits
 
@@ -86,6 +35,9 @@ module _ (n : ℕ) where
   pub more_digits : 10 ≤ n → digits n ≡ digits (n / 10) ++ ((48 + n % 10) ∷ [])
   unfolding digits last_digits
   more_digits h = simp (le-ltb n 10 h) (ap (λ (s : List ℕ). s ++ ((48 + n % 10) ∷ [])) (enough n (suc (n / 10)) (n / 10) (omega arith) (omega arith)))
+
+  pub last_digit : n < 10 → digits n ≡ (48 + n % 10) ∷ []
+  last_digit h = one_digit h ∙ ap (λ (m : ℕ). (48 + m) ∷ []) (omega arith)
 
 -- what holds of one digit, and with one digit more, holds of every number
 by_digits : (P : ℕ → Type 0) → ((n : ℕ) → n < 10 → P n) → ((n : ℕ) → 10 ≤ n → P (n / 10) → P n) → (k n : ℕ) → n < k → P n
@@ -124,16 +76,30 @@ padded_more (suc count) n h =
 
 -- ---- the sign
 
-module _ (text : ℕ → List ℕ) where
-  pub below_zero : {z : ℤ} → z <ℤ pos 0 → signed text z ≡ minus ∷ text (nat_abs z)
-  unfolding signed
-  below_zero {z = pos n} h = absurd (not-suc-le-zero (ltb→lt n 0 h.lt))
-  below_zero {z = negsuc n} h = refl
+pub no_sign : {z : ℤ} → pos 0 ≤ℤ z → sign z ≡ []
+unfolding sign
+no_sign {z = pos n} h = refl
+no_sign {z = negsuc n} h = absurd h.le
 
-  pub from_zero : {z : ℤ} → pos 0 ≤ℤ z → signed text z ≡ text (nat_abs z)
-  unfolding signed
-  from_zero {z = pos n} h = refl
-  from_zero {z = negsuc n} h = absurd h.le
+pub sign_below : {z : ℤ} → z <ℤ pos 0 → sign z ≡ minus ∷ []
+unfolding sign
+sign_below {z = pos n} h = absurd (not-suc-le-zero (ltb→lt n 0 h.lt))
+sign_below {z = negsuc n} h = refl
+
+sign_and_size : (text : ℕ → List ℕ) (z : ℤ) → sign z ++ text (nat_abs z) ≡ signed text z
+unfolding sign signed
+sign_and_size text (pos n) = refl
+sign_and_size text (negsuc n) = refl
+
+pub sign_most : (z : ℤ) → length (sign z) ≤ 1
+unfolding sign
+sign_most (pos n) = omega arith
+sign_most (negsuc n) = omega arith
+
+-- a size behind the sign
+pub size_behind : (text : ℕ → List ℕ) (before : List ℕ) (z : ℤ) (n : ℕ) → n ≡ nat_abs z → before ++ sign z ++ text n ≡ before ++ signed text z
+size_behind text before z n is =
+    append_assoc before (sign z) (text n) ∙ ap (λ (s : List ℕ). before ++ s) (ap (λ (m : ℕ). sign z ++ text m) is ∙ sign_and_size text z)
 
 -- any number of 64 bits has 20 bytes at most
 pub decimal_short : (z : ℤ) → nat_abs z < 10 ^ 19 → length (decimal z) ≤ 20

@@ -1,3 +1,4 @@
+pub mod StdLaws
 pub mod LineLaws
 pub mod WordLaws
 pub mod Reading

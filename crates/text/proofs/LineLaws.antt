@@ -2,8 +2,8 @@
 use mathlib.Core.Bool.{Bool, ◌&&◌, cond, false, true}
 use mathlib.Core.List.{List, [], ◌∷◌}
 use mathlib.Core.Option.{none}
-use mathlib.Core.Path.{◌∙◌, ◌≡◌, ap, ap₂, refl, subst, subst⁻¹, sym}
-use Prim.Native.Nat.{◌*◌, ◌+◌, ◌-◌, ◌<◌, ◌^◌, ◌≤◌, suc, ℕ}
+use mathlib.Core.Path.{◌∙◌, ◌≡◌, ap, refl, subst, subst⁻¹, sym}
+use Prim.Native.Nat.{◌*◌, ◌+◌, ◌-◌, ◌<◌, ◌^◌, ◌≤◌, ℕ}
 use native.Mathlib.Nat.{le_refl, le_trans, lt_of_lt_of_le, mul_assoc, mul-le-mul_right, pow-le-pow_right, pow-succ'}
 use native.Mathlib.Numerals.{add-one}
 use native.Mathlib.Omega.{arith}
@@ -11,8 +11,8 @@ use lib.Dec.{T, eqb, leb}
 use lib.IntN.{neg_ℤ, pos}
 use lib.ListN.{drop, drop_of_length-le, get_or, length, length-drop, take}
 use lib.Seq.{drop-cons, take_all}
-use borrow.Author.Tests.{eq-eqb, le-leb, leb-true, lt-leb, ne_eqb}
-use Rattle.text.specs.Line.{all, begins, is_digit, is_natural, is_negative, is_number, line_numbers, minus, natural, sheet_numbers, space, value, value_after, word_length}
+use borrow.Author.Tests.{le-leb, leb-true, lt-leb}
+use Rattle.text.specs.Line.{all, begins, is_digit, is_natural, is_negative, is_number, line_numbers, natural, sheet_numbers, value, value_after}
 
 -- both of two tests
 pub first_of : (a b : Bool) → (a && b) ≡ true → a ≡ true
@@ -26,14 +26,6 @@ second_of false b e = absurd (subst T (sym e) tt)
 module _ (s : List ℕ) (i : ℕ) (h : i < length s) where
   pub at_place : drop i s ≡ get_or s i 0 ∷ drop (i + 1) s
   at_place = drop-cons s i 0 h ∙ ap (λ (n : ℕ). get_or s i 0 ∷ drop n s) (sym (add-one i))
-
-  pub word_ends : get_or s i 0 ≡ space → word_length (drop i s) ≡ 0
-  unfolding word_length
-  word_ends e = ap word_length at_place ∙ simp (eq-eqb (get_or s i 0) space e)
-
-  pub word_goes_on : (get_or s i 0 ≡ space → ⊥) → word_length (drop i s) ≡ suc (word_length (drop (i + 1) s))
-  unfolding word_length
-  word_goes_on e = ap word_length at_place ∙ simp (ne_eqb (get_or s i 0) space e)
 
   all_at : (test : ℕ → Bool) → all test (drop i s) ≡ (test (get_or s i 0) && all test (drop (i + 1) s))
   unfolding all
@@ -62,10 +54,6 @@ to_end s i = take_all (length s - i) (drop i s) (simp length-drop (le_refl (leng
 
 -- past the end
 module _ (s : List ℕ) (i : ℕ) (h : length s ≤ i) where
-  pub word_over : word_length (drop i s) ≡ 0
-  unfolding word_length
-  word_over = ap word_length (drop_of_length-le s h)
-
   pub all_over : (test : ℕ → Bool) → all test (drop i s) ≡ true
   unfolding all
   all_over test = ap (all test) (drop_of_length-le s h)
@@ -80,40 +68,6 @@ unfolding begins
 begins_within [] line e = omega arith
 begins_within (byte ∷ rest) [] e = absurd (subst⁻¹ T e tt)
 begins_within (byte ∷ rest) (other ∷ line) e = omega (arith, begins_within rest line (second_of (eqb byte other) (begins rest line) e))
-
-module _ (first line : List ℕ) where
-  pub begins_short : length line < length first → false ≡ begins first line
-  begins_short h = by_test (begins first line) refl
-    where
-      by_test : (p : Bool) → begins first line ≡ p → false ≡ p
-      by_test true e = absurd (omega (arith, begins_within first line e))
-      by_test false e = refl
-
-  pub begins_over : (i : ℕ) → length first ≤ i → begins (drop i first) (drop i line) ≡ true
-  unfolding begins
-  begins_over i h = ap (λ (s : List ℕ). begins s (drop i line)) (drop_of_length-le first h)
-
-  module _ (i : ℕ) (h : i < length first) (l : i < length line) where
-    begins_at : begins (drop i first) (drop i line) ≡ (eqb (get_or first i 0) (get_or line i 0) && begins (drop (i + 1) first) (drop (i + 1) line))
-    unfolding begins
-    begins_at = ap₂ begins (at_place first i h) (at_place line i l)
-
-    pub begins_fails : (get_or first i 0 ≡ get_or line i 0 → ⊥) → begins (drop i first) (drop i line) ≡ false
-    begins_fails e = begins_at ∙ simp (ne_eqb (get_or first i 0) (get_or line i 0) e)
-
-    pub begins_goes_on : get_or first i 0 ≡ get_or line i 0 → begins (drop i first) (drop i line) ≡ begins (drop (i + 1) first) (drop (i + 1) line)
-    begins_goes_on e = begins_at ∙ simp (eq-eqb (get_or first i 0) (get_or line i 0) e)
-
--- the sign
-pub no_sign : (s : List ℕ) → length s ≡ 0 → false ≡ is_negative s
-unfolding is_negative
-no_sign [] e = refl
-no_sign (byte ∷ rest) e = absurd (omega (arith, e))
-
-pub sign_here : (s : List ℕ) → (length s ≡ 0 → ⊥) → eqb (get_or s 0 0) minus ≡ is_negative s
-unfolding is_negative
-sign_here [] e = absurd (e refl)
-sign_here (byte ∷ rest) e = refl
 
 pub digit_least : (byte : ℕ) → is_digit byte ≡ true → 48 ≤ byte
 digit_least byte e = leb-true 48 byte (first_of (leb 48 byte) (leb byte 57) e)
@@ -189,14 +143,6 @@ module _ (few most : ℕ) (h : few ≤ most) where
 
 -- a number by its sign
 module _ (s : List ℕ) (e : is_negative s ≡ true) where
-  pub sign_counts : 1 ≤ length s
-  unfolding is_negative
-  sign_counts = go s e
-    where
-      go : (s : List ℕ) → is_negative s ≡ true → 1 ≤ length s
-      go [] e = absurd (subst T (sym e) tt)
-      go (byte ∷ rest) e = omega arith
-
   pub number_behind : (most : ℕ) → is_number most s ≡ is_natural most (drop 1 s)
   unfolding is_number
   number_behind most = ap (λ (p : Bool). cond p (is_natural most (drop 1 s)) (is_natural most s)) e

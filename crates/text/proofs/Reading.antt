@@ -1,128 +1,89 @@
--- A line that is being read: k words were passed, all of them numbers, and the others are left.
+-- A line that is being read: so many words were found, all of them numbers, with their values kept.
 use mathlib.Core.Bool.{Bool, ◌&&◌, false, true}
-use mathlib.Core.List.{List, [], ◌∷◌, ◌++◌, append-nil, map, map-append}
-use mathlib.Core.Option.{none, some}
+use mathlib.Core.List.{List, [], ◌∷◌, ◌++◌, map, map-append}
 use mathlib.Core.Path.{◌∙◌, ◌≡◌, ap, ap₂, refl, sym}
-use Prim.Native.Nat.{◌+◌, ◌-◌, ◌<◌, ◌≤◌, suc, ℕ}
+use Prim.Native.Nat.{◌+◌, ◌-◌, ◌<◌, ◌≤◌, suc, zero, ℕ}
+use native.Mathlib.Nat.{not-suc-le-zero}
+use native.Mathlib.Numerals.{add-one}
 use native.Mathlib.Omega.{arith}
 use lib.IntN.{pos, ℤ}
-use lib.ListN.{drop, length, length-append, length-map, replicate, set, take}
-use lib.Seq.{append_snoc, set_at, take_all, take-append-add, take_at}
-use Rattle.text.specs.Line.{all, answer, is_number, line_numbers, short_numbers, value, words}
-use Rattle.text.proofs.WordLaws.{all_append, all_numbers, end_within, left, left_none, left_split, left_words, other_count, other_word, word_at, word_end}
+use lib.ListN.{get_or, length, length-map, replicate, set, take}
+use lib.Seq.{append_snoc, length-take-le, set_at, take-suc, take_all}
+use Rattle.std.specs.Prelude.{None, Some}
+use Rattle.text.specs.Line.{all, answer, is_number, line_numbers, value, words}
+use Rattle.text.proofs.WordLaws.{all_append, all_numbers, other_count, other_word}
 
-pub record Passing (line : List ℕ) (start most at k : ℕ) : Type 0 where
-  pub done : List (List ℕ)
-  pub counted : length done ≡ k
-  pub good : all (is_number most) done ≡ true
-  pub split : words (drop start line) ≡ done ++ left line at
-  pub place : at ≤ length line + 1
+pub record Reading (line : List ℕ) (count most found : ℕ) (values : List ℤ) : Type 0 where
+  pub good : all (is_number most) (take found (words line)) ≡ true
+  pub kept : values ≡ map value (take found (words line)) ++ replicate (12 - found) (pos 0)
+  pub within : found ≤ count
 
-pub set_out : (line : List ℕ) (start most : ℕ) → start ≤ length line → Passing line start most start 0
+pub begun : (line : List ℕ) (count most : ℕ) → Reading line count most 0 (replicate 12 (pos 0))
 unfolding all
-set_out line start most h = record { done = []; counted = refl; good = refl; split = sym (left_words line start h); place = omega arith }
+begun line count most = record { good = refl; kept = refl; within = omega arith }
 
-module _ {line : List ℕ} {start most at k : ℕ} (p : Passing line start most at k) where
-  -- past the end
-  pub all_done : length line < at → words (drop start line) ≡ p.done
-  all_done h = p.split ∙ ap (λ (more : List (List ℕ)). p.done ++ more) (left_none line at h) ∙ append-nil p.done
+-- one entry that fails is enough
+fails_at : {A : Type 0} (test : A → Bool) (s : List A) (i : ℕ) (d : A) → i < length s → test (get_or s i d) ≡ false → all test s ≡ false
+unfolding all
+fails_at test [] i d h e = absurd (not-suc-le-zero h)
+fails_at test (entry ∷ rest) zero d h e = ap (λ (p : Bool). p && all test rest) e
+fails_at test (entry ∷ rest) (suc i) d h e = ap (λ (p : Bool). test entry && p) (fails_at test rest i d (omega arith) e) ∙ none_of (test entry)
+  where
+    none_of : (p : Bool) → (p && false) ≡ false
+    none_of true = refl
+    none_of false = refl
 
-  -- a word more
-  module _ (h : at ≤ length line) where
-    pub next_split : words (drop start line) ≡ p.done ++ word_at line at ∷ left line (word_end line at + 1)
-    next_split = p.split ∙ ap (λ (more : List (List ℕ)). p.done ++ more) (left_split line at h)
-
-    pub pass : is_number most (word_at line at) ≡ true → Passing line start most (word_end line at + 1) (k + 1)
-    unfolding all
-    pass e =
-        record {
-          done = p.done ++ (word_at line at ∷ []);
-          counted = length-append p.done (word_at line at ∷ []) ∙ ap (λ (n : ℕ). n + 1) p.counted;
-          good = all_append (is_number most) p.done (word_at line at ∷ []) ∙ ap₂ (λ (a b : Bool). a && (b && true)) p.good e;
-          split = next_split ∙ sym (append_snoc p.done (word_at line at) (left line (word_end line at + 1)));
-          place = omega (arith, end_within line at h);
-        }
-
--- ---- with their values
-pub record Reading (line : List ℕ) (start count most : ℕ) (values : List ℤ) (at k : ℕ) : Type 0 where
-  pub passing : Passing line start most at k
-  pub kept : values ≡ map value passing.done ++ replicate (12 - k) (pos 0)
-  pub within : k ≤ count
-
-pub begun : (line : List ℕ) (start count most : ℕ) → start ≤ length line → Reading line start count most (replicate 12 (pos 0)) start 0
-unfolding set_out
-begun line start count most h = record { passing = set_out line start most h; kept = refl; within = omega arith }
-
-module _ {line : List ℕ} {start count most : ℕ} {values : List ℤ} {at k : ℕ} (r : Reading line start count most values at k) where
-  abbrev p : Passing line start most at k
-  p = r.passing
-
-  module _ (h : length line < at) where
-    pub too_few : k < count → none ≡ line_numbers count most (drop start line)
-    too_few l = sym (other_count count most (drop start line) (λ e. omega (arith, ap length (all_done p h), p.counted, e)))
-
-    pub all_read : count ≤ k → record { read = true; values = values } ≡ answer (line_numbers count most (drop start line))
+module _ {line : List ℕ} {count most found : ℕ} {values : List ℤ} (r : Reading line count most found values) where
+  -- one word more
+  module _ (word : List ℕ) (h : found < length (words line)) (is : word ≡ get_or (words line) found word) where
+    pub too_many : found ≡ count → None ≡ answer (line_numbers count most line)
     unfolding answer
-    all_read l =
-        (λ i. record { read = true; values = (r.kept ∙ ap (λ (n : ℕ). map value p.done ++ replicate (12 - n) (pos 0)) read_all) i })
-        ∙ sym (ap answer (all_numbers count most (drop start line) (omega (arith, ap length (all_done p h), p.counted, r.within)) (ap (all (is_number most)) (all_done p h) ∙ p.good)
-        ∙ ap (λ (list : List (List ℕ)). some (map value list)) (all_done p h)))
-      where
-        read_all : k ≡ length (map value p.done)
-        read_all = sym (length-map p.done value ∙ p.counted)
+    too_many l = sym (ap answer (other_count count most line (λ e. omega (arith, e))))
 
-  module _ (h : at ≤ length line) where
-    pub too_many : count ≤ k → none ≡ line_numbers count most (drop start line)
-    too_many l =
-        sym (other_count count most (drop start line)
-        (λ e. omega (arith, ap length (next_split p h), length-append p.done (word_at line at ∷ left line (word_end line at + 1)), p.counted, e)))
+    pub no_number : is_number most word ≡ false → None ≡ answer (line_numbers count most line)
+    unfolding answer
+    no_number e = sym (ap answer (other_word count most line (fails_at (is_number most) (words line) found word h (ap (is_number most) (sym is) ∙ e))))
 
-    pub no_number : is_number most (word_at line at) ≡ false → none ≡ line_numbers count most (drop start line)
-    unfolding all
-    no_number e =
-        sym (other_word count most (drop start line)
-        (ap (all (is_number most)) (next_split p h) ∙ all_append (is_number most) p.done (word_at line at ∷ left line (word_end line at + 1))
-        ∙ ap₂ (λ (p q : Bool). p && (q && all (is_number most) (left line (word_end line at + 1)))) p.good e))
+    next : take (found + 1) (words line) ≡ take found (words line) ++ (word ∷ [])
+    next =
+        ap (λ (n : ℕ). take n (words line)) (add-one found) ∙ take-suc (words line) found word h
+        ∙ ap (λ (w : List ℕ). take found (words line) ++ (w ∷ [])) (sym is)
 
-    module _ (e : is_number most (word_at line at) ≡ true) (l : k < count) (m : count ≤ 12) (v : ℤ) (same : v ≡ value (word_at line at)) where
-      stored : set values k v ≡ map value (p.done ++ (word_at line at ∷ [])) ++ replicate (12 - (k + 1)) (pos 0)
+    module _ (e : is_number most word ≡ true) (l : found < count) (m : count ≤ 12) (v : ℤ) (same : v ≡ value word) where
+      stored : set values found v ≡ map value (take (found + 1) (words line)) ++ replicate (12 - (found + 1)) (pos 0)
       stored =
-          ap (λ (list : List ℤ). set list k v) (r.kept ∙ ap (λ (n : ℕ). map value p.done ++ replicate n (pos 0)) room)
-          ∙ set_at (map value p.done) (pos 0) (replicate (12 - (k + 1)) (pos 0)) v k (length-map p.done value ∙ p.counted)
-          ∙ sym (append_snoc (map value p.done) v (replicate (12 - (k + 1)) (pos 0)))
-          ∙ ap (λ (list : List ℤ). list ++ replicate (12 - (k + 1)) (pos 0))
-          (ap (λ (z : ℤ). map value p.done ++ (z ∷ [])) same ∙ sym (map-append value p.done (word_at line at ∷ [])))
+          let done = take found (words line) in
+          ap (λ (list : List ℤ). set list found v) (r.kept ∙ ap (λ (n : ℕ). map value done ++ replicate n (pos 0)) room)
+          ∙ set_at (map value done) (pos 0) (replicate (12 - (found + 1)) (pos 0)) v found (length-map done value ∙ length-take-le found (words line) (omega arith))
+          ∙ sym (append_snoc (map value done) v (replicate (12 - (found + 1)) (pos 0)))
+          ∙ ap (λ (list : List ℤ). list ++ replicate (12 - (found + 1)) (pos 0))
+          (ap (λ (z : ℤ). map value done ++ (z ∷ [])) same ∙ sym (map-append value done (word ∷ [])) ∙ ap (map value) (sym next))
         where
-          room : 12 - k ≡ suc (12 - (k + 1))
+          room : 12 - found ≡ suc (12 - (found + 1))
           room = omega arith
 
-      pub one_more : Reading line start count most (set values k v) (word_end line at + 1) (k + 1)
-      unfolding pass
-      one_more = record { passing = pass p h e; kept = stored; within = omega arith }
+      pub one_more : Reading line count most (found + 1) (set values found v)
+      unfolding all
+      one_more =
+          record {
+            good = ap (all (is_number most)) next ∙ all_append (is_number most) (take found (words line)) (word ∷ []) ∙ ap₂ (λ (p q : Bool). p && (q && true)) r.good e;
+            kept = stored;
+            within = omega arith;
+          }
 
--- ---- of so many words, or all where there are fewer
-module _ {line : List ℕ} {start at k : ℕ} (p : Passing line start 9 at k) (count : ℕ) where
-  pub all_passed : count ≡ k → true ≡ short_numbers count (drop start line)
-  unfolding short_numbers
-  all_passed e =
-      sym (ap (λ (list : List (List ℕ)). all (is_number 9) (take count list)) p.split
-      ∙ ap (all (is_number 9)) (take_at p.done (left line at) count (p.counted ∙ sym e)) ∙ p.good)
+  -- at the end of the line
+  module _ (h : found ≡ length (words line)) where
+    pub too_few : found < count → None ≡ answer (line_numbers count most line)
+    unfolding answer
+    too_few l = sym (ap answer (other_count count most line (λ e. omega (arith, e))))
 
-  pub no_more : k < count → length line < at → true ≡ short_numbers count (drop start line)
-  unfolding short_numbers
-  no_more l h =
-      sym (ap (λ (list : List (List ℕ)). all (is_number 9) (take count list)) (all_done p h)
-      ∙ ap (all (is_number 9)) (take_all count p.done (omega (arith, p.counted))) ∙ p.good)
+    whole : take found (words line) ≡ words line
+    whole = take_all found (words line) (omega (arith, h))
 
-  pub not_short : k < count → at ≤ length line → is_number 9 (word_at line at) ≡ false → false ≡ short_numbers count (drop start line)
-  unfolding short_numbers all
-  not_short l h e =
-      let word = word_at line at in
-      let rest = left line (word_end line at + 1) in
-      let more = count - suc k in
-      let reaches : count ≡ length p.done + suc more = omega (arith, p.counted) in
-      sym (ap (λ (list : List (List ℕ)). all (is_number 9) (take count list)) (next_split p h)
-      ∙ ap (λ (n : ℕ). all (is_number 9) (take n (p.done ++ word ∷ rest))) reaches
-      ∙ ap (all (is_number 9)) (take-append-add p.done (word ∷ rest) (suc more))
-      ∙ all_append (is_number 9) p.done (word ∷ take more rest)
-      ∙ ap₂ (λ (a b : Bool). a && (b && all (is_number 9) (take more rest))) p.good e)
+    pub all_read : count ≤ found → Some values ≡ answer (line_numbers count most line)
+    unfolding answer
+    all_read l =
+        ap Some
+        (r.kept ∙ ap (λ (list : List (List ℕ)). map value list ++ replicate (12 - found) (pos 0)) whole
+        ∙ ap (λ (n : ℕ). map value (words line) ++ replicate (12 - n) (pos 0)) (h ∙ sym (length-map (words line) value)))
+        ∙ sym (ap answer (all_numbers count most line (omega (arith, h, r.within)) (ap (all (is_number most)) (sym whole) ∙ r.good)))

@@ -1,8 +1,6 @@
--- Whole numbers as text, in ASCII bytes, and a text that grows at its end.
-use Rattle.std.specs.Prelude.{cond, List, [], ◌∷◌, ◌++◌, ◌≡◌, ℕ, ◌%◌, ◌+◌, ◌/◌, suc, zero, ltb, ℤ, negsuc, pos, length, take}
-use Rattle.std.proofs.lemmas.List.Edits.{sets}
+-- Whole numbers as text, in ASCII bytes.
+use Rattle.std.specs.Prelude.{cond, List, [], ◌∷◌, ◌++◌, ℕ, ◌%◌, ◌+◌, ◌/◌, suc, zero, ltb, ℤ, negsuc, pos}
 use Rattle.text.specs.Line.{minus}
-use Rattle.text.specs.declared.decimal.Text.{Text}
 
 -- the last digits of n, as many as there is room for, with no zero in front
 unfoldable pub last_digits : ℕ → ℕ → List ℕ
@@ -14,6 +12,11 @@ last_digits (suc room) n =
 -- room for one digit more than the number itself is always enough
 unfoldable pub digits : ℕ → List ℕ
 digits n = last_digits (suc n) n
+
+-- a minus sign below zero
+unfoldable pub sign : ℤ → List ℕ
+sign (pos n) = []
+sign (negsuc n) = minus ∷ []
 
 -- a minus sign below zero, and the size
 unfoldable pub signed : (ℕ → List ℕ) → ℤ → List ℕ
@@ -41,17 +44,3 @@ decimals = signed with_point
 -- the most bytes of a text
 abbrev pub text_room : ℕ
 text_room = 80
-
--- the bytes of a text that are in use
-abbrev pub written : Text → List ℕ
-written text = take text.length text.bytes
-
-infixl 20 ◌followed_by◌
--- these bytes stored behind those in use
-unfoldable pub ◌followed_by◌ : Text → List ℕ → Text
-text followed_by added = record { bytes = sets text.bytes text.length added; length = text.length + length added }
-
--- what appending gives: the whole text, and with it the bytes in use
-pub record Appended (text : Text) (added : List ℕ) (next : Text) : Type 0 where
-  pub whole : next ≡ (text followed_by added)
-  pub in_use : written next ≡ written text ++ added

@@ -1,7 +1,7 @@
 -- Lines of whole numbers with single spaces (01, "The argument sheet"). A line is the list of its ASCII bytes.
-use Rattle.std.specs.Prelude.{Bool, ◌&&◌, cond, false, true, List, [], ◌∷◌, ◌++◌, map, ℕ, ◌*◌, ◌+◌, ◌-◌, suc, eqb, leb, ℤ, neg_ℤ, pos, drop, length, replicate, take}
+use Rattle.std.specs.Prelude.{Bool, ◌&&◌, cond, false, true, List, [], ◌∷◌, ◌++◌, map, ℕ, ◌*◌, ◌+◌, ◌-◌, eqb, leb, ℤ, neg_ℤ, pos, drop, length, replicate, take}
 use Rattle.std.proofs.Math.Option.{Option, none, some}
-use Rattle.text.specs.declared.line.Numbers.{Numbers}
+use Rattle.std.specs.Prelude.{Option as Found, Some, None}
 
 abbrev pub space : ℕ
 space = 32
@@ -23,11 +23,6 @@ longer byte (word ∷ rest) = (byte ∷ word) ∷ rest
 unfoldable pub words : List ℕ → List (List ℕ)
 words [] = [] ∷ []
 words (byte ∷ rest) = cond (eqb byte space) ([] ∷ words rest) (longer byte (words rest))
-
--- how many bytes stand before the first space
-unfoldable pub word_length : List ℕ → ℕ
-word_length [] = 0
-word_length (byte ∷ rest) = cond (eqb byte space) 0 (suc (word_length rest))
 
 -- `0` to `9`
 abbrev pub is_digit : ℕ → Bool
@@ -82,7 +77,7 @@ begins [] line = true
 begins (byte ∷ rest) [] = false
 begins (byte ∷ rest) (first ∷ line) = eqb byte first && begins rest line
 
--- the numbers as they are handed back: zeros in the entries that are left, and in all of them where the line is another
-unfoldable pub answer : Option (List ℤ) → Numbers
-answer none = record { read = false; values = replicate 12 (pos 0) }
-answer (some list) = record { read = true; values = list ++ replicate (12 - length list) (pos 0) }
+-- the numbers as they are handed back: with zeros in the entries that are left, and none where the line is another
+unfoldable pub answer : Option (List ℤ) → Found (List ℤ)
+answer none = None
+answer (some list) = Some (list ++ replicate (12 - length list) (pos 0))

@@ -1,94 +1,67 @@
--- `text::line::line_numbers` meets its contract. The invariant: `Reading`.
-use mathlib.Core.List.{List}
-use mathlib.Core.Path.{◌∙◌, ◌≡◌, ap, sym}
-use Prim.Native.Nat.{◌+◌, ◌-◌, ◌≤◌, ℕ}
-use native.Mathlib.Omega.{arith}
-use lib.ListN.{drop, length, take}
-use mir.Syntax.{w64}
-use mir.Val.{of_z, to_z}
+-- `text::line::line_numbers` meets its contract. The invariant: `Reading`, as far as the words go that `split` has given.
+use Rattle.std.proofs.Common.{◌≡◌, ◌∙◌, ap, arith, refl, rules, subst, sym, tests, of_calls, ℕ, ◌<◌, List, [], ◌∷◌, eqb, get_or, length, length-append, w64, of_z, to_z}
+use Rattle.std.proofs.lemmas.Iterator.Consumers.{YieldsList-at, YieldsList-end, YieldsList-turn}
+use Rattle.std.proofs.lemmas.Iterator.Splits.{YieldsList-from_slice_split}
 use Rattle.numbers.proofs.Machine.{passed}
-use Rattle.text.specs.Line.{answer, is_number, value, word_length}
-use Rattle.text.proofs.LineLaws.{number_wider, to_end}
+use Rattle.text.specs.Line.{space, words}
+use Rattle.text.proofs.LineLaws.{number_wider}
 use Rattle.text.proofs.Reading.{all_read, begun, no_number, one_more, too_few, too_many}
-use Rattle.text.proofs.WordLaws.{end_found, end_inside, word_at, word_end, word_found}
+use Rattle.text.proofs.StdLaws.{words_are}
 use Rattle.text.proofs.line.line_numbers.Goals as goal
-use Rattle.text.proofs.line.line_numbers.Goals.{After-is_number, After-word_length, At-loop-found}
-
-abbrev loop_of : After-word_length → At-loop-found
-loop_of c = (goal.at.After-word_length c).At-loop-found
+use Rattle.text.proofs.line.line_numbers.Goals.{In-None, In-Some, then-found-count-via-then-found-count, then-found-count-via-else-found-count+then-not-is_number}
 
 -- the word that the turn is at
-module _ (c : After-word_length) where
-  abbrev line : List ℕ
-  line = (loop_of c).args.line.now
+module _ (c : In-Some) where
+  abbrev word : List ℕ
+  word = c.in-Some.word.now
 
-  abbrev most : ℕ
-  most = (loop_of c).args.most
+  here : (c.loop-word.found < length (words c.args.line.now)) × (word ≡ get_or (words c.args.line.now) c.loop-word.found word)
+  here =
+      let line = c.args.line.now in
+      let s = c.split-word-items.ensures in
+      subst (λ (n : ℕ). (n < length (words line)) × (word ≡ get_or (words line) n word)) (sym c.loop-word.invariant.2)
+      (subst (λ (list : List (List ℕ)). (length c.loop-word.yielded < length list) × (word ≡ get_or list (length c.loop-word.yielded) word)) (words_are line)
+      (YieldsList-turn (YieldsList-at c.into_iter-word-iterator.ensures.into_iter_gives (YieldsList-from_slice_split _ (λ b. eqb b space) line s.rest s.done s.closure (λ x b q k. search (rules, tests))))
+      c.loop-word.yielded c.loop-word.word-iterator c.loop-word.yielded_by c.next.result c.next.new.self c.in-Some.word c.in-Some.is c.next.ensures.steps))
 
-  abbrev at : ℕ
-  at = (loop_of c).loop-found.at
+-- all of them were found
+module _ (c : In-None) where
+  none_left : c.loop-word.found ≡ length (words c.args.line.now)
+  none_left =
+      let line = c.args.line.now in
+      let s = c.split-word-items.ensures in
+      c.loop-word.invariant.2
+      ∙ (YieldsList-end (YieldsList-at c.into_iter-word-iterator.ensures.into_iter_gives (YieldsList-from_slice_split _ (λ b. eqb b space) line s.rest s.done s.closure (λ x b q k. search (rules, tests))))
+      c.loop-word.yielded c.loop-word.word-iterator c.loop-word.yielded_by c.next.result c.next.new.self c.in-None.is c.next.ensures.steps).1
+      ∙ ap length (words_are line)
 
-  length_is : c.word_length.result ≡ word_length (drop at line)
-  length_is = c.word_length.ensures ∙ ap word_length (to_end line at)
+pub loop-word-init : goal.loop-word-init
+loop-word-init c = (search of_calls, search of_calls, refl, begun c.args.line.now c.args.count c.args.most)
 
-  inside : at ≤ length line
-  inside = c.if-at-line.false
-
-  end_is : at + c.word_length.result ≡ word_end line at
-  end_is = end_found line at inside c.word_length.result length_is
-
-  ends : at + c.word_length.result ≤ length line
-  ends = end_inside line at inside c.word_length.result length_is
-
-  word_is : take (at + c.word_length.result - at) (drop at line) ≡ word_at line at
-  word_is = word_found line at inside c.word_length.result length_is
-
-word_tested : (c : After-is_number) → c.is_number.result ≡ is_number (most (goal.at.After-is_number c).After-word_length) (word_at (line (goal.at.After-is_number c).After-word_length) (at (goal.at.After-is_number c).After-word_length))
-word_tested c = c.is_number.ensures ∙ ap (is_number (most (goal.at.After-is_number c).After-word_length)) (word_is (goal.at.After-is_number c).After-word_length)
-
-pub loop-found-init : goal.loop-found-init
-loop-found-init c = begun c.args.line.now c.args.start c.args.count c.args.most c.requires.0
-
-pub returns-then-at-line : goal.returns-then-at-line
-returns-then-at-line c = c.no_numbers.ensures ∙ ap answer (too_few c.loop-found.invariant c.if-at-line.true c.loop-found-test.true)
-
-pub overflow_add-end : goal.overflow_add-end
-overflow_add-end c = record { fits = omega (arith, ends (goal.at.overflow_add-end c).After-word_length) }
-
-pub slice_bounds-is_number-end : goal.slice_bounds-is_number-end
-slice_bounds-is_number-end c = ends (goal.at.slice_bounds-is_number-end c).After-word_length
-
-pub returns-then-not-is_number : goal.returns-then-not-is_number
-returns-then-not-is_number c =
-    let w = (goal.at.returns-then-not-is_number c).After-word_length in
-    c.no_numbers-then-not-is_number.ensures
-    ∙ ap answer (no_number (loop_of w).loop-found.invariant w.if-at-line.false (sym (word_tested (goal.at.returns-then-not-is_number c).After-is_number) ∙ c.if-not-is_number.true))
-
-pub slice_bounds-value-end : goal.slice_bounds-value-end
-slice_bounds-value-end c = ends (goal.at.slice_bounds-value-end c).After-word_length
+pub returns-then-found-count : goal.returns-then-found-count
+returns-then-found-count c =
+    let k = (goal.at.returns-then-found-count c).In-Some in
+    elim c.then-found-count.branch [
+      | then-found-count-via-then-found-count w ↦ too_many c.loop-word.invariant.3 (word k) (here k).0 (here k).1 w.if-found-count.true
+      | then-found-count-via-else-found-count+then-not-is_number w ↦
+          no_number c.loop-word.invariant.3 (word k) (here k).0 (here k).1 (sym w.is_number.ensures ∙ w.if-not-is_number.true)
+    ]
 
 pub value-requires : goal.value-requires
-value-requires c =
-    let w = (goal.at.value-requires c).After-word_length in
-    let s = loop_of w in
-    number_wider (most w) 10 s.requires.1.1 _ (sym c.is_number.ensures ∙ c.if-not-is_number.false)
+value-requires c = number_wider c.args.most 10 c.requires.1 _ (sym c.is_number.ensures ∙ c.if-not-is_number.false)
 
-pub overflow_add-at : goal.overflow_add-at
-overflow_add-at c =
-    let w = (goal.at.overflow_add-at c).After-word_length in
-    record { fits = omega (arith, ends w) }
+pub loop-word-preserved : goal.loop-word-preserved
+loop-word-preserved c =
+    let k = (goal.at.loop-word-preserved c).In-Some in (
+      search of_calls,
+      search of_calls,
+      omega (arith, c.loop-word.invariant.2, length-append c.loop-word.yielded (c.in-Some.word ∷ [])),
+      one_more c.loop-word.invariant.3 (word k) (here k).0 (here k).1 (sym c.is_number.ensures ∙ c.if-not-is_number.false) (omega (arith, c.loop-word.invariant.3.within)) c.requires.0
+          (to_z w64 (of_z w64 c.value.result)) (passed c.value.type_inv c.value.ensures),
+    )
 
-pub loop-found-preserved : goal.loop-found-preserved
-loop-found-preserved c =
-    let t = (goal.at.loop-found-preserved c).After-is_number in
-    let w = (goal.at.After-is_number t).After-word_length in
-    let l = loop_of w in
-    rw (end_is w)
-    (one_more l.loop-found.invariant w.if-at-line.false (sym (word_tested t) ∙ c.if-not-is_number.false) w.loop-found-test.true
-    l.requires.1.0 (to_z w64 (of_z w64 c.value.result)) (passed c.value.type_inv (c.value.ensures ∙ ap value (word_is w))))
+pub returns-then-found-count-2 : goal.returns-then-found-count-2
+returns-then-found-count-2 c = too_few c.loop-word.invariant.3 (none_left (goal.at.returns-then-found-count-2 c).In-None) c.if-found-count-2.true
 
-pub returns-then-at-line-2 : goal.returns-then-at-line-2
-returns-then-at-line-2 c = c.no_numbers-then-at-line-2.ensures ∙ ap answer (too_many c.loop-found.invariant c.if-at-line-2.true c.loop-found-test.false)
-
-pub returns : goal.returns
-returns c = all_read c.loop-found.invariant c.if-at-line-2.false c.loop-found-test.false
+pub returns-else-found-count-2 : goal.returns-else-found-count-2
+returns-else-found-count-2 c = all_read c.loop-word.invariant.3 (none_left (goal.at.returns-else-found-count-2 c).In-None) c.if-found-count-2.false

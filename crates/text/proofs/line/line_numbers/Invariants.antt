@@ -1,9 +1,10 @@
-use Prim.Native.Nat.{◌-◌}
+use Rattle.std.proofs.Common.{◌≡◌, length}
 use Rattle.text.proofs.Reading.{Reading}
 use Rattle.text.proofs.line.line_numbers.Given as goal
 
-abbrev pub invariant-loop-found : goal.invariant-loop-found
-invariant-loop-found l = Reading l.line l.start l.count l.most l.values l.at l.found
-
-abbrev pub decreases-loop-found : goal.decreases-loop-found
-decreases-loop-found l = l.count - l.found
+abbrev pub invariant-loop-word : goal.invariant-loop-word
+invariant-loop-word l =
+    (goal.iterator-loop-word).can_next l.word-iterator
+    × (goal.iterator-loop-word).is_finite l.word-iterator
+    × (l.found ≡ length l.yielded)
+    × Reading l.line l.count l.most l.found l.values

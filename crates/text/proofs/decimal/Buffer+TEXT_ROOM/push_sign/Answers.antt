@@ -1,0 +1,16 @@
+-- `push_sign` of a text meets its contract.
+use mathlib.Core.List.{List, ◌++◌, append-nil}
+use mathlib.Core.Path.{◌∙◌, ap, sym}
+use Prim.Native.Nat.{ℕ}
+use lib.IntN.{pos}
+use Rattle.numbers.proofs.Machine.{any, less, lit, not_less}
+use Rattle.text.proofs.DecimalLaws.{no_sign, sign_below}
+use Rattle.text.proofs.decimal.Buffer+TEXT_ROOM.push_sign.Goals as goal
+
+pub returns-then-value-lt0 : goal.returns-then-value-lt0
+returns-then-value-lt0 c =
+    c.push.ensures ∙ ap (λ (s : List ℕ). c.args.self.now ++ s) (sym (sign_below (less (any c.ranges.value) (lit (pos 0)) c.if-value-lt0.true)))
+
+pub returns-else-value-lt0 : goal.returns-else-value-lt0
+returns-else-value-lt0 c =
+    sym (append-nil c.args.self.now) ∙ ap (λ (s : List ℕ). c.args.self.now ++ s) (sym (no_sign (not_less (any c.ranges.value) (lit (pos 0)) c.if-value-lt0.false)))
