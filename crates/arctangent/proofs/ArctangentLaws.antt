@@ -7,12 +7,11 @@ use native.Mathlib.Decide.{dec_lt, le_ind}
 use native.Mathlib.Nat.{le_of_lt, le_refl, le_trans}
 use native.Mathlib.Numerals.{add-one}
 use native.Mathlib.Omega.{arith}
-use lib.Dec.{T, eqb, leb, lit≤, ltb→lt}
+use lib.Dec.{T, eqb, lit≤, ltb→lt}
 use lib.IntN.{◌*ℤ◌, ◌+ℤ◌, ◌-ℤ◌, nat_abs, negsuc, neg_ℤ, pos, ℤ}
-use lib.Signed.{◌<ℤ◌, ◌≤ℤ◌, le_z}
-use borrow.Author.Tests.{le-leb, lt-leb, ne_eqb}
+use lib.Signed.{◌<ℤ◌, ◌≤ℤ◌}
+use borrow.Author.Tests.{ne_eqb}
 use Rattle.arithmetic.specs.Floor.{⌊◌÷◌⌋}
-use Rattle.arithmetic.proofs.Difference.{abs_parts, to_le, to_lt, ⟨◌⟩}
 use Rattle.arithmetic.proofs.FloorLaws.{floor_most}
 use Rattle.arithmetic.proofs.Integers.{solveℤ}
 use Rattle.arithmetic.proofs.Sizes.{abs_neg, add_bound, mul_bound, sub_bound}
@@ -23,14 +22,15 @@ use Rattle.arctangent.specs.Direction.{Direction, DirectionsTold, Reduced, angle
 use Rattle.std.specs.Prelude.{None, Some, is_some}
 use Rattle.number_rules.specs.ArctangentTable.{turn_by}
 use Rattle.numbers.specs.Whole.{by_sign, sign}
-use Rattle.arctangent.specs.declared.direction.Turning.{Turning}
+use Rattle.arctangent.specs.Turning.{Sized, grown}
+use Rattle.arctangent.specs.declared.turning.Turning.{Turning}
 use Rattle.number_rules.proofs.ArctangentTableLaws.{turn_small}
 use Rattle.number_rules.proofs.SineLaws.{reduced_below}
 use Rattle.numbers.proofs.Machine.{Mirror}
 use Rattle.numbers.proofs.SignLaws.{signed_small}
 
 -- ---- a step as the code takes it: by the sign of y, with no case
-pub step_signed : (k : ℕ) (s : Turning)
+pub step_signed : (k : ℕ) (s : Turning ℤ)
     → step k s ≡ record { x = s.x +ℤ sign s.y *ℤ ⌊ s.y ÷ 2 ^ k ⌋; y = s.y -ℤ sign s.y *ℤ ⌊ s.x ÷ 2 ^ k ⌋; angle = s.angle +ℤ sign s.y *ℤ pos (turn_by k) }
 unfolding step
 step_signed k s = go s.y
@@ -62,14 +62,14 @@ step_signed k s = go s.y
     less' : (a b : ℤ) → a +ℤ b ≡ a -ℤ negsuc 0 *ℤ b
     less' a b = solveℤ (x0 :+ x1) (x0 :- con (negsuc 0) :* x1) (a ∷ b ∷ []) tt
 
-    go : (y : ℤ) → ◌≡◌ {A = Turning}
+    go : (y : ℤ) → ◌≡◌ {A = Turning ℤ}
         (by_sign y (record { x = s.x +ℤ dx; y = s.y -ℤ dy; angle = s.angle +ℤ t }) s (record { x = s.x -ℤ dx; y = s.y +ℤ dy; angle = s.angle -ℤ t }))
         (record { x = s.x +ℤ sign y *ℤ dx; y = s.y -ℤ sign y *ℤ dy; angle = s.angle +ℤ sign y *ℤ t })
     go (pos zero) = λ i. record { x = none s.x dx i; y = none' s.y dy i; angle = none s.angle t i }
     go (pos (suc m)) = λ i. record { x = one s.x dx i; y = one' s.y dy i; angle = one s.angle t i }
     go (negsuc m) = λ i. record { x = less s.x dx i; y = less' s.y dy i; angle = less s.angle t i }
 
-pub start_left : (y : ℤ) {x : ℤ} → x <ℤ pos 0 → ◌≡◌ {A = Turning} (record { x = neg_ℤ (x *ℤ pos 1024); y = neg_ℤ (y *ℤ pos 1024); angle = pos half_turn }) (start y x)
+pub start_left : (y : ℤ) {x : ℤ} → x <ℤ pos 0 → ◌≡◌ {A = Turning ℤ} (record { x = neg_ℤ (x *ℤ pos 1024); y = neg_ℤ (y *ℤ pos 1024); angle = pos half_turn }) (start y x)
 unfolding start
 start_left y {x = pos n} h = absurd (none n (ltb→lt n 0 h.lt))
   where
@@ -77,22 +77,17 @@ start_left y {x = pos n} h = absurd (none n (ltb→lt n 0 h.lt))
     none n h = omega arith
 start_left y {x = negsuc n} h = refl
 
-pub start_right : (y : ℤ) {x : ℤ} → pos 0 ≤ℤ x → ◌≡◌ {A = Turning} (record { x = x *ℤ pos 1024; y = y *ℤ pos 1024; angle = pos 0 }) (start y x)
+pub start_right : (y : ℤ) {x : ℤ} → pos 0 ≤ℤ x → ◌≡◌ {A = Turning ℤ} (record { x = x *ℤ pos 1024; y = y *ℤ pos 1024; angle = pos 0 }) (start y x)
 unfolding start
 start_right y {x = pos n} h = refl
 start_right y {x = negsuc n} h = absurd h.le
 
-pub steps_next : (k : ℕ) (s : Turning) → step k (steps k s) ≡ steps (k + 1) s
+pub steps_next : (k : ℕ) (s : Turning ℤ) → step k (steps k s) ≡ steps (k + 1) s
 unfolding steps
 steps_next k s = rw add-one
 
 -- ---- sizes: x and y at most b before step k are at most b + b / 2ᵏ + 1 after it
-pub record Sized (b a : ℕ) (s : Turning) : Type 0 where
-  pub x_size : nat_abs s.x ≤ b
-  pub y_size : nat_abs s.y ≤ b
-  pub angle_size : nat_abs s.angle ≤ a
-
-step_sized : (k b a : ℕ) (s : Turning) → k < 30 → Sized b a s → Sized (b + (b / 2 ^ k + 1)) (a + 4_500_000_000) (step k s)
+step_sized : (k b a : ℕ) (s : Turning ℤ) → k < 30 → Sized b a s → Sized (b + (b / 2 ^ k + 1)) (a + 4_500_000_000) (step k s)
 step_sized k b a s h p =
     subst⁻¹ (Sized (b + (b / 2 ^ k + 1)) (a + 4_500_000_000)) (step_signed k s)
     (record {
@@ -110,43 +105,37 @@ step_sized k b a s h p =
     t : ℤ
     t = pos (turn_by k)
 
--- the bound after k steps
-bound : ℕ → ℕ → ℕ
-bound b zero = b
-bound b (suc k) = bound b k + (bound b k / 2 ^ k + 1)
-
-bound_mono : (b k m : ℕ) → k ≤ m → bound b k ≤ bound b m
-unfolding bound
-bound_mono b k m h = le_ind (λ (m : ℕ). bound b k ≤ bound b m) (le_refl (bound b k)) (λ m _ ih. le_trans ih (more (bound b m) (bound b m / 2 ^ m))) m h
+grown_mono : (b k m : ℕ) → k ≤ m → grown b k ≤ grown b m
+unfolding grown
+grown_mono b k m h = le_ind (λ (m : ℕ). grown b k ≤ grown b m) (le_refl (grown b k)) (λ m _ ih. le_trans ih (more (grown b m) (grown b m / 2 ^ m))) m h
   where
     more : (x y : ℕ) → x ≤ x + (y + 1)
     more x y = omega arith
 
-steps_bounded : (b k a : ℕ) (s : Turning) → k ≤ 30 → Sized b a s → Sized (bound b k) (a + k * 4_500_000_000) (steps k s)
-unfolding steps bound
+steps_bounded : (b k a : ℕ) (s : Turning ℤ) → k ≤ 30 → Sized b a s → Sized (grown b k) (a + k * 4_500_000_000) (steps k s)
+unfolding steps grown
 steps_bounded b zero a s h p = subst (λ (n : ℕ). Sized b n s) (same a) p
   where
     same : (a : ℕ) → a ≡ a + 0 * 4_500_000_000
     same a = omega arith
 steps_bounded b (suc k) a s h p =
-    subst (λ (n : ℕ). Sized (bound b k + (bound b k / 2 ^ k + 1)) n (step k (steps k s))) (next a k)
-    (step_sized k (bound b k) (a + k * 4_500_000_000) (steps k s) h (steps_bounded b k a s (omega arith) p))
+    subst (λ (n : ℕ). Sized (grown b k + (grown b k / 2 ^ k + 1)) n (step k (steps k s))) (next a k)
+    (step_sized k (grown b k) (a + k * 4_500_000_000) (steps k s) h (steps_bounded b k a s (omega arith) p))
   where
     next : (a k : ℕ) → a + k * 4_500_000_000 + 4_500_000_000 ≡ a + suc k * 4_500_000_000
     next a k = omega arith
 
 -- from b no step leaves a number above m
-steps_sized : (b m k : ℕ) (s : Turning) → bound b 30 ≤ m → k ≤ 30 → Sized b (2 ^ 50) s → Sized m (2 ^ 60) (steps k s)
+pub steps_sized : (b m k : ℕ) (s : Turning ℤ) → grown b 30 ≤ m → k ≤ 30 → Sized b (2 ^ 50) s → Sized m (2 ^ 60) (steps k s)
 steps_sized b m k s l h p =
     let q = steps_bounded b k (2 ^ 50) s h p in
-    let n = le_trans (bound_mono b k 30 h) l in
+    let n = le_trans (grown_mono b k 30 h) l in
     record { x_size = le_trans q.x_size n; y_size = le_trans q.y_size n; angle_size = omega (arith, q.angle_size) }
 
-pub narrow_sized : (k : ℕ) (s : Turning) → k ≤ 30 → Sized (2 ^ 50) (2 ^ 50) s → Sized (2 ^ 60) (2 ^ 60) (steps k s)
-narrow_sized k s = steps_sized (2 ^ 50) (2 ^ 60) k s (lit≤ (unfold bound in tt))
-
-pub wide_sized : (k : ℕ) (s : Turning) → k ≤ 30 → Sized (2 ^ 73) (2 ^ 50) s → Sized (2 ^ 82) (2 ^ 60) (steps k s)
-wide_sized k s = steps_sized (2 ^ 73) (2 ^ 82) k s (lit≤ (unfold bound in tt))
+-- so that there is room for the first pair
+pub first_room : (b : ℕ) {m : ℕ} → grown b 30 ≤ m → b ≤ m
+unfolding grown
+first_room b h = le_trans (grown_mono b 0 30 (lit≤ tt)) h
 
 -- the first pair: both numbers times 1024
 pub start_sized : (y x : ℤ) {m : ℕ} → nat_abs y ≤ m → nat_abs x ≤ m → Sized (m * 1024) (2 ^ 50) (start y x)
@@ -224,14 +213,3 @@ direction_tells None None there same = refl
 pub mark_tells : (d : Direction) → Reduced d → angle_or mark d ≡ mark → d ≡ None
 mark_tells (Some angle) r same = absurd (omega (arith, r, ap nat_abs same))
 mark_tells None r same = refl
-
--- ---- a small number: at most 2⁴⁰ on either side of zero
-abbrev least : ℤ
-least = negsuc 1_099_511_627_775
-
-pub small_below : (z : ℤ) → z <ℤ least → leb (nat_abs z) (2 ^ 40) ≡ false
-small_below z h = lt-leb (nat_abs z) (2 ^ 40) (omega (arith, to_lt ⟨ z ⟩ ⟨ least ⟩ h, abs_parts z))
-
-pub small_above : (z : ℤ) → least ≤ℤ z → le_z z (pos (2 ^ 40)) ≡ leb (nat_abs z) (2 ^ 40)
-small_above (pos n) h = refl
-small_above (negsuc n) h = sym (le-leb (suc n) (2 ^ 40) (omega (arith, to_le ⟨ least ⟩ ⟨ negsuc n ⟩ h)))

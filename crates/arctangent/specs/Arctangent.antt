@@ -2,13 +2,13 @@
 use Rattle.std.specs.Prelude.{Some, None, cond, ◌↔◌, ◌≡◌, ℕ, zero, suc, ◌+◌, ◌^◌, eqb, ℤ, pos, negsuc, neg_ℤ, nat_abs, ◌+ℤ◌, ◌-ℤ◌, ◌*ℤ◌}
 use Rattle.arithmetic.specs.Floor.{⌊◌÷◌⌋}
 use Rattle.arctangent.specs.Direction.{Direction, Reduced}
-use Rattle.arctangent.specs.declared.direction.Turning.{Turning}
+use Rattle.arctangent.specs.declared.turning.Turning.{Turning}
 use Rattle.numbers.specs.Whole.{by_sign}
 use Rattle.number_rules.specs.Angle.{half_turn, reduced}
 use Rattle.number_rules.specs.ArctangentTable.{turn_by}
 
 -- step k, from the old pair
-unfoldable pub step : ℕ → Turning → Turning
+unfoldable pub step : ℕ → Turning ℤ → Turning ℤ
 step k s =
     by_sign s.y
     (record { x = s.x +ℤ ⌊ s.y ÷ 2 ^ k ⌋; y = s.y -ℤ ⌊ s.x ÷ 2 ^ k ⌋; angle = s.angle +ℤ pos (turn_by k) })
@@ -16,12 +16,12 @@ step k s =
     (record { x = s.x -ℤ ⌊ s.y ÷ 2 ^ k ⌋; y = s.y +ℤ ⌊ s.x ÷ 2 ^ k ⌋; angle = s.angle -ℤ pos (turn_by k) })
 
 -- the steps 0 to k - 1
-unfoldable pub steps : ℕ → Turning → Turning
+unfoldable pub steps : ℕ → Turning ℤ → Turning ℤ
 steps zero s = s
 steps (suc k) s = step k (steps k s)
 
 -- both times 1024; x negative: negate both, start at 180 degrees, else at 0
-unfoldable pub start : ℤ → ℤ → Turning
+unfoldable pub start : ℤ → ℤ → Turning ℤ
 start y (pos x) = record { x = pos x *ℤ pos 1024; y = y *ℤ pos 1024; angle = pos 0 }
 start y (negsuc x) = record { x = neg_ℤ (negsuc x *ℤ pos 1024); y = neg_ℤ (y *ℤ pos 1024); angle = pos half_turn }
 

@@ -1,3 +1,4 @@
 pub mod Direction
+pub mod Turning
 pub mod Arctangent
 pub mod Limbs

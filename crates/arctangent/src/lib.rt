@@ -3,4 +3,4 @@
 
 pub mod direction;
 mod limbs;
-mod wide_angle;
+mod turning;

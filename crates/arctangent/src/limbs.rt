@@ -1,9 +1,10 @@
 // Whole numbers past 64 bits, in two limbs: high · 2²⁴ + low. The arctangent turns large pairs in them.
-ghost use Rattle.std.specs.Prelude.{◌≡◌, ◌≤◌, ◌<◌, ◌^◌, pos, nat_abs, ◌+ℤ◌, ◌*ℤ◌};
+ghost use Rattle.std.specs.Prelude.{◌≡◌, ◌≤◌, ◌<◌, ◌^◌};
 ghost use Rattle.arithmetic.specs.Floor.{⌊◌÷◌⌋};
-ghost use Rattle.numbers.specs.Whole.{sign};
 ghost use Rattle.arctangent.specs.Limbs.{value, Proper};
+ghost use Rattle.arctangent.specs.Turning.{wide_enough};
 
+use super::turning::Coordinate;
 use numbers::whole::{floor_div, floor_mod, sign_of};
 
 #[derive(Clone, Copy)]
@@ -12,30 +13,8 @@ pub struct Limbs {
     pub low: i64,
 }
 
-// The sign of the high limb, or where that is zero of the low one.
-pub fn wide_sign(a: Limbs) -> i64
-    requires { Proper a }
-    ensures { result ≡ sign (value a) }
-{
-    let high = a.high;
-    let low = a.low;
-    if high == 0 {
-        return sign_of(low);
-    }
-    sign_of(high)
-}
-
-// z times 1024.
-pub fn scaled(z: i64) -> Limbs
-    ensures { (value result ≡ z *ℤ pos 1024) × Proper result }
-{
-    let high = z >> 14;
-    let low = floor_mod(z, 16_384) as i64 * 1024;
-    Limbs { high, low }
-}
-
-// ⌊a / p⌋.
-pub fn divided(a: Limbs, p: u64) -> Limbs
+// ⌊a / p⌋: the high limb is divided first, and what it leaves goes down to the low one.
+fn divided(a: Limbs, p: u64) -> Limbs
     requires { Proper a × ((0 < p) × (p ≤ 2 ^ 30)) }
     ensures { (value result ≡ ⌊ value a ÷ p ⌋) × Proper result }
 {
@@ -50,15 +29,43 @@ pub fn divided(a: Limbs, p: u64) -> Limbs
     }
 }
 
-// a + c b, for c of -1, 0 or 1: the low limbs are added and the carry goes up.
-pub fn plus_times(a: Limbs, c: i64, b: Limbs) -> Limbs
-    requires { Proper a × (Proper b × ((nat_abs c ≤ 1) × (nat_abs (value a +ℤ c *ℤ value b) ≤ 2 ^ 83))) }
-    ensures { (value result ≡ value a +ℤ c *ℤ value b) × Proper result }
-{
-    let sum = a.low + c * b.low;
-    let carry = sum >> 24;
-    Limbs {
-        high: a.high + c * b.high + carry,
-        low: sum - carry * 16_777_216,
+impl Coordinate for Limbs {
+    ghost number = { value };
+
+    ghost IsProper = { Proper };
+
+    ghost largest = { 2 ^ 63 };
+
+    ghost room = { 2 ^ 82 };
+
+    ghost enough = { wide_enough };
+
+    fn scaled(z: i64) -> Limbs {
+        let high = z >> 14;
+        let low = floor_mod(z, 16_384) as i64 * 1024;
+        Limbs { high, low }
+    }
+
+    // The sign of the high limb, or where that is zero of the low one.
+    fn sign(self) -> i64 {
+        if self.high == 0 {
+            sign_of(self.low)
+        } else {
+            sign_of(self.high)
+        }
+    }
+
+    fn floored(self, k: usize) -> Limbs {
+        divided(self, 1 << k)
+    }
+
+    // The low limbs are added and the carry goes up.
+    fn plus_times(self, c: i64, other: Limbs) -> Limbs {
+        let sum = self.low + c * other.low;
+        let carry = sum >> 24;
+        Limbs {
+            high: self.high + c * other.high + carry,
+            low: sum - carry * 16_777_216,
+        }
     }
 }

@@ -76,23 +76,11 @@ module _ (c : After-floor_div-digit) where
       gave c.floor_div-digit.type_inv (c.floor_div-digit.ensures ∙ ap (λ (z : ℤ). ⌊ z ÷ p (s m) ⌋) (kept (sum m) tt).same)
       (le_trans (floor_small (sum m).number (p (s m))) (sum m).bound)
 
-pub floor_div-quotient-requires : goal.floor_div-quotient-requires
-floor_div-quotient-requires c = above (goal.at.floor_div-quotient-requires c).Start
-
-pub floor_mod-requires : goal.floor_mod-requires
-floor_mod-requires c = above (s₁ (goal.at.floor_mod-requires c).After-floor_div-quotient)
-
 pub overflow_cast-rest : goal.overflow_cast-rest
 overflow_cast-rest c = nat_fits (digit_small (goal.at.overflow_cast-rest c).After-floor_mod) tt
 
 pub overflow_mul-rest : goal.overflow_mul-rest
 overflow_mul-rest c = fits (digit (goal.at.overflow_mul-rest c).After-floor_mod ⊗ lit (pos limb)) tt
-
-pub overflow_add-rest : goal.overflow_add-rest
-overflow_add-rest c = fits (sum (goal.at.overflow_add-rest c).After-floor_mod) tt
-
-pub floor_div-digit-requires : goal.floor_div-digit-requires
-floor_div-digit-requires c = above (s (goal.at.floor_div-digit-requires c).After-floor_mod)
 
 pub returns : goal.returns
 returns c =

@@ -1,32 +1,33 @@
--- `arctangent::limbs::plus_times` meets its contract.
+-- `arctangent::limbs::LimbsCoordinate::plus_times` meets its contract.
 use mathlib.Core.Path.{◌∙◌, ◌≡◌, refl, subst⁻¹}
 use Prim.Native.Nat.{◌^◌, ◌≤◌}
 use lib.Dec.{lit<}
 use lib.IntN.{◌*ℤ◌, ◌+ℤ◌, nat_abs, pos, ℤ}
 use Rattle.arithmetic.specs.Floor.{◌modulo◌}
+use Rattle.arithmetic.proofs.Sizes.{add_bound, mul_bound}
 use Rattle.arithmetic.proofs.FloorLaws.{left_over, left_small, modulo_below}
 use Rattle.arctangent.specs.Limbs.{Proper, limb, value}
 use Rattle.arctangent.specs.declared.limbs.Limbs.{Limbs}
 use Rattle.arctangent.proofs.LimbLaws.{digit_proper, low_most, room_of, sum_value}
 use Rattle.numbers.proofs.Machine.{Mirror, ◌⊕◌, ◌⊖◌, ◌⊗◌, arg, fits, kept, lit, shr_by, told}
-use Rattle.arctangent.proofs.limbs.plus_times.Goals as goal
-use Rattle.arctangent.proofs.limbs.plus_times.Goals.{After-struct_told-1, After-struct_told-2-1, After-struct_told-3-1, After-struct_told-4-1, Start}
+use Rattle.arctangent.proofs.limbs.LimbsCoordinate.plus_times.Goals as goal
+use Rattle.arctangent.proofs.limbs.LimbsCoordinate.plus_times.Goals.{After-struct_told-1, After-struct_told-2-1, After-struct_told-3-1, After-struct_told-4-1, Start}
 
 module _ (s : Start) where
   abbrev a : Limbs
-  a = s.args.a
+  a = s.args.self
 
   abbrev b : Limbs
-  b = s.args.b
+  b = s.args.other
 
   abbrev a_proper : Proper a
-  a_proper = s.requires.0
+  a_proper = s.requires.0.0
 
   abbrev b_proper : Proper b
   b_proper = s.requires.1.0
 
   abbrev c : Mirror
-  c = arg s.ranges.c s.requires.1.1.0
+  c = arg s.ranges.c s.requires.2
 
   abbrev a_low : Mirror
   a_low = told {r = a.low} refl (low_most a a_proper) tt
@@ -61,9 +62,12 @@ module _ (s : Start) where
   digit_is : low.number ≡ pos (sum.number modulo limb)
   digit_is = left_over sum.number (lit< tt)
 
+  sum_most : nat_abs (value a +ℤ s.args.c *ℤ value b) ≤ 2 ^ 83
+  sum_most = add_bound (value a) (s.args.c *ℤ value b) s.requires.0.1 (mul_bound s.args.c (value b) s.requires.2 s.requires.1.1)
+
   high_room : nat_abs high.number ≤ 2 ^ 60
   high_room =
-      room_of high.number low.number (subst⁻¹ (λ (z : ℤ). nat_abs z ≤ 2 ^ 83) value_is s.requires.1.1.1) (left_small sum.number {d = limb} (lit< tt))
+      room_of high.number low.number (subst⁻¹ (λ (z : ℤ). nat_abs z ≤ 2 ^ 83) value_is sum_most) (left_small sum.number {d = limb} (lit< tt))
 
 abbrev s₁ : After-struct_told-1 → Start
 s₁ c = (goal.at.After-struct_told-1 c).Start
@@ -77,14 +81,8 @@ s₃ c = s₂ (goal.at.After-struct_told-3-1 c).After-struct_told-2-1
 abbrev s₄ : After-struct_told-4-1 → Start
 s₄ c = s₃ (goal.at.After-struct_told-4-1 c).After-struct_told-3-1
 
-pub overflow_mul-sum : goal.overflow_mul-sum
-overflow_mul-sum k = fits (c (s₁ (goal.at.overflow_mul-sum k).After-struct_told-1) ⊗ b_low (s₁ (goal.at.overflow_mul-sum k).After-struct_told-1)) tt
-
 pub overflow_add-sum : goal.overflow_add-sum
 overflow_add-sum k = fits (sum (s₂ (goal.at.overflow_add-sum k).After-struct_told-2-1)) tt
-
-pub overflow_mul-result : goal.overflow_mul-result
-overflow_mul-result k = fits (c (s₃ (goal.at.overflow_mul-result k).After-struct_told-3-1) ⊗ b_high (s₃ (goal.at.overflow_mul-result k).After-struct_told-3-1)) tt
 
 pub overflow_add-result : goal.overflow_add-result
 overflow_add-result k = fits (highs (s₄ (goal.at.overflow_add-result k).After-struct_told-4-1)) tt

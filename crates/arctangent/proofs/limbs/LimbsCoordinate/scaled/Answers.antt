@@ -1,4 +1,4 @@
--- `arctangent::limbs::scaled` meets its contract.
+-- `arctangent::limbs::LimbsCoordinate::scaled` meets its contract.
 use mathlib.Core.Path.{◌∙◌, ◌≡◌, ap, subst⁻¹}
 use Prim.Native.Nat.{◌*◌, ◌^◌, ◌≤◌, ℕ}
 use native.Mathlib.Nat.{le_trans}
@@ -10,8 +10,8 @@ use Rattle.arithmetic.proofs.FloorLaws.{modulo_below}
 use Rattle.arctangent.specs.Limbs.{limb}
 use Rattle.arctangent.proofs.LimbLaws.{digit_proper, scaled_value}
 use Rattle.numbers.proofs.Machine.{Mirror, ◌⊗◌, any, fits, from_nat, kept, lit, nat_fits, shr_by}
-use Rattle.arctangent.proofs.limbs.scaled.Goals as goal
-use Rattle.arctangent.proofs.limbs.scaled.Goals.{After-floor_mod, Start}
+use Rattle.arctangent.proofs.limbs.LimbsCoordinate.scaled.Goals as goal
+use Rattle.arctangent.proofs.limbs.LimbsCoordinate.scaled.Goals.{After-floor_mod, Start}
 
 abbrev high : Start → Mirror
 high s = kept (shr_by (any s.ranges.z) 16_384) tt
