@@ -70,7 +70,7 @@ pub trait Coordinate: Copy {
     // Its floor by 2ᵏ.
     fn floored(self, k: usize) -> Self
         requires { IsProper self × (nat_abs (number self) ≤ room) × (k < 30) }
-        ensures { (number result ≡ ⌊ number self ÷ 2 ^ k ⌋) × IsProper result };
+        ensures { (number result ≡ ⌊ number self ÷ 2 ^ k ⌋) × (IsProper result × (nat_abs (number result) ≤ room)) };
 
     // Its sum with c times another, for c of -1, 0 or 1.
     fn plus_times(self, c: i64, other: Self) -> Self

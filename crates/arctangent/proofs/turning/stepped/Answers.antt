@@ -1,27 +1,22 @@
 -- `arctangent::turning::stepped` meets its contract.
 use mathlib.Core.List.{[], ◌∷◌}
-use mathlib.Core.Path.{◌∙◌, ◌≡◌, refl, subst⁻¹, sym}
+use mathlib.Core.Path.{◌∙◌, ◌≡◌, refl, sym}
 use Prim.Native.Nat.{◌<◌, ◌^◌, ◌≤◌, ℕ}
-use native.Mathlib.Nat.{le_trans}
 use lib.IntN.{◌*ℤ◌, ◌+ℤ◌, ◌-ℤ◌, nat_abs, neg_ℤ, pos, ℤ}
 use lib.Signed.{mag}
 use Rattle.arithmetic.specs.Floor.{⌊◌÷◌⌋}
-use Rattle.arithmetic.proofs.FloorLaws.{floor_small}
 use Rattle.arithmetic.proofs.Integers.{solveℤ}
 use Rattle.arithmetic.proofs.Solver.{◌:*◌, ◌:+◌, ◌:-◌, neg', x0, x1, x2}
 use Rattle.number_rules.specs.ArctangentTable.{turn_by}
 use Rattle.numbers.specs.Whole.{sign}
 use Rattle.number_rules.proofs.ArctangentTableLaws.{turn_small}
-use Rattle.numbers.proofs.Machine.{Mirror, ◌⊕◌, ◌⊗◌, asked, fits, gave, kept, minus, told}
+use Rattle.numbers.proofs.Machine.{Mirror, ◌⊕◌, ◌⊗◌, fits, gave, kept, minus, told}
 use Rattle.numbers.proofs.SignLaws.{sign_small}
 use Rattle.arctangent.specs.Arctangent.{step}
 use Rattle.arctangent.specs.Turning.{turning}
 use Rattle.arctangent.specs.declared.turning.Turning.{Turning}
 use Rattle.arctangent.proofs.ArctangentLaws.{step_signed}
 use Rattle.arctangent.proofs.turning.stepped.Goals as goal
-
-floor_bound : {v : ℤ} (z : ℤ) {m : ℕ} (p : ℕ) → v ≡ ⌊ z ÷ p ⌋ → nat_abs z ≤ m → nat_abs v ≤ m
-floor_bound z {m} p e h = subst⁻¹ (λ (w : ℤ). nat_abs w ≤ m) e (le_trans (floor_small z p) h)
 
 taken : (y s d : ℤ) → y +ℤ neg_ℤ s *ℤ d ≡ y -ℤ s *ℤ d
 taken y s d = solveℤ (x0 :+ neg' x1 :* x2) (x0 :- x1 :* x2) (y ∷ s ∷ d ∷ []) tt
@@ -49,24 +44,6 @@ module _ (y : ℤ) {r : ℤ} (f : mag r < 2 ^ 63) (e : r ≡ sign y) where
           angle = (kept angle tt).same i;
         })
         ∙ sym (step_signed k (record { x = x; y = y; angle = a }))
-
-pub plus_times-requires : goal.plus_times-requires
-plus_times-requires g c₀ =
-    let s = turning g.T.Coordinate.number c₀.args.s in
-    let size = c₀.requires.3 in (
-      (c₀.requires.2.0, size.x_size),
-      (c₀.floored-dx.ensures.1, floor_bound s.y (2 ^ c₀.args.k) c₀.floored-dx.ensures.0 size.y_size),
-      asked (c s.y c₀.sign-c.type_inv c₀.sign-c.ensures) tt,
-    )
-
-pub plus_times-requires-2 : goal.plus_times-requires-2
-plus_times-requires-2 g c₀ =
-    let s = turning g.T.Coordinate.number c₀.args.s in
-    let size = c₀.requires.3 in (
-      (c₀.requires.2.1, size.y_size),
-      (c₀.floored-dy.ensures.1, floor_bound s.x (2 ^ c₀.args.k) c₀.floored-dy.ensures.0 size.x_size),
-      asked (c' s.y c₀.sign-c.type_inv c₀.sign-c.ensures) tt,
-    )
 
 pub overflow_add-result : goal.overflow_add-result
 overflow_add-result g c₀ =
