@@ -30,6 +30,7 @@ pub fn angle_of(y: i64, x: i64) -> Angle
 }
 
 // Where a pair points to from the x axis towards the y axis: a reduced angle, or nowhere.
+#[tactic(auto, unfolding(crate::specs::Arctangent::arctangent))]
 pub fn arctangent(y: i64, x: i64) -> Option<Angle>
     ensures { result ≡ arctangent y x }
 {
