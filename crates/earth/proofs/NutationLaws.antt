@@ -12,14 +12,14 @@ use Rattle.number_rules.specs.Angle.{full_turn}
 use Rattle.number_rules.specs.Sine.{cosine, sine}
 use Rattle.number_rules.proofs.SineSize.{cosine_most, sine_most}
 use Rattle.sum_rules.specs.Instant.{furthest, u}
-use Rattle.sum_terms.specs.TermRange.{Turns}
+use Rattle.sum_terms.specs.TermRange.{Summing, Turns}
 use Rattle.sum_rules.specs.Nutation.{arguments, cosine_term, row_angle, sine_term, weight, Δε, Δψ}
 use Rattle.earth.specs.NutationRange.{Summable, row_bounds, spread}
 use Rattle.sum_rules.specs.NutationTerms.{X0, X1, X2, X3, X4, nutation_terms}
 use Rattle.sum_rules.specs.Table.{column, count, total}
 use Rattle.sum_terms.proofs.InstantLaws.{floor_size, u_most, value_small}
 use Rattle.sum_terms.proofs.TableLaws.{bounded_rows, bounded_test}
-use Rattle.sum_terms.proofs.SumLoop.{Summing, all_small}
+use Rattle.sum_terms.proofs.SumLoop.{all_small}
 use Rattle.sum_terms.proofs.TermLaws.{five}
 
 -- a weight is at most 10 a and 2 b, and one

@@ -1,16 +1,15 @@
 // Nutation and obliquity.
 ghost use Rattle.std.specs.Prelude.{◌≡◌, ◌≤◌, ◌^◌, nat_abs, ◌+ℤ◌};
 ghost use Rattle.sum_rules.specs.Instant.{Reached};
-ghost use Rattle.sum_rules.specs.Table.{total};
 ghost use Rattle.sum_terms.specs.TermRange.{Turns};
 ghost use Rattle.sum_rules.specs.Nutation.{arguments, row_angle, weight, sine_term, cosine_term, Δψ, Δε, mean_obliquity};
-ghost use Rattle.earth.specs.NutationRange.{SmallRow, Summable};
+ghost use Rattle.earth.specs.NutationRange.{SmallRow};
 
 use numbers::whole::floor_div;
 use sum_rules::instant::{Polynomial, Powers};
-use sum_tables::nutation_terms::nutation_terms;
+use sum_tables::nutation_terms::NUTATION;
 use sum_terms::instant::value_at;
-use sum_terms::terms::{TermSums, angle_of, weighted};
+use sum_terms::terms::{RowTerms, TermSums, angle_of, term_sums, weighted};
 
 // X0, the mean elongation of the Moon from the Sun.
 const MEAN_ELONGATION: Polynomial = Polynomial {
@@ -102,33 +101,30 @@ fn weight(u: i64, a: i32, b: i32) -> i64
     10 * a as i64 + floor_div(b as i64 * u, 1_000_000)
 }
 
-// One row by sine and by cosine.
-fn row_terms(arguments: [i64; 5], u: i64, row: [i32; 9]) -> TermSums
-    requires { Turns arguments × ((nat_abs u ≤ 2 ^ 20) × SmallRow row) }
-    ensures { (result.sine ≡ sine_term arguments u row) × (result.cosine ≡ cosine_term arguments u row) }
-{
-    let angle = row_angle(arguments, row);
-    let first = weight(u, row[5], row[6]);
-    let second = weight(u, row[7], row[8]);
-    weighted(first, second, angle)
+// What the rows share: X0 to X4, and u.
+#[derive(Clone, Copy)]
+struct NutationTerms {
+    arguments: [i64; 5],
+    u: i64,
 }
 
-// All rows by sine and by cosine.
-fn term_sums(arguments: [i64; 5], u: i64, terms: &[[i32; 9]]) -> TermSums
-    requires { Turns arguments × ((nat_abs u ≤ 2 ^ 20) × Summable terms.now) }
-    ensures { (result.sine ≡ total (sine_term arguments u) terms.now)
-        × (result.cosine ≡ total (cosine_term arguments u) terms.now) }
-{
-    let mut sine: i64 = 0;
-    let mut cosine: i64 = 0;
-    let mut i: usize = 0;
-    while i < terms.len() {
-        let row = row_terms(arguments, u, terms[i]);
-        sine = sine + row.sine;
-        cosine = cosine + row.cosine;
-        i = i + 1;
+impl RowTerms<9> for NutationTerms {
+    ghost takes = { λ s row. Turns s.arguments × ((nat_abs s.u ≤ 2 ^ 20) × SmallRow row) };
+
+    ghost sine = { λ s. sine_term s.arguments s.u };
+
+    ghost cosine = { λ s. cosine_term s.arguments s.u };
+
+    fn row_terms(&self, row: [i32; 9]) -> TermSums
+        requires { Turns self.now.arguments × ((nat_abs self.now.u ≤ 2 ^ 20) × SmallRow row) }
+        ensures { (result.sine ≡ sine_term self.now.arguments self.now.u row)
+            × (result.cosine ≡ cosine_term self.now.arguments self.now.u row) }
+    {
+        let angle = row_angle(self.arguments, row);
+        let first = weight(self.u, row[5], row[6]);
+        let second = weight(self.u, row[7], row[8]);
+        weighted(first, second, angle)
     }
-    TermSums { sine, cosine }
 }
 
 // The nutation at TT, over the powers of the instant.
@@ -136,7 +132,11 @@ pub fn nutation_at(t: Powers) -> Nutation
     requires { Reached t }
     ensures { (result.longitude ≡ Δψ t.n) × (result.obliquity ≡ Δε t.n) }
 {
-    let sums = term_sums(arguments(t), t.u, &nutation_terms());
+    let terms = NutationTerms {
+        arguments: arguments(t),
+        u: t.u,
+    };
+    let sums = term_sums(&terms, &NUTATION);
     Nutation {
         longitude: floor_div(25 * sums.sine, 90_000_000_000),
         obliquity: floor_div(25 * sums.cosine, 90_000_000_000),

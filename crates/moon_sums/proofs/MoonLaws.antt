@@ -22,13 +22,12 @@ use Rattle.number_rules.proofs.SineSize.{cosine_most, sine_most}
 use Rattle.sum_rules.specs.Instant.{furthest, minus, p2, u}
 use Rattle.sum_rules.specs.Moon.{E, E2, added, arguments, cosine_term, eccentricity, row_angle, sine_term, weight}
 use Rattle.moon_sums.specs.MoonRange.{Slight, Summable, row_bounds, spread}
-use Rattle.sum_terms.specs.TermRange.{Turns, angle_of}
+use Rattle.sum_terms.specs.TermRange.{Summing, Turns, angle_of}
 use Rattle.sum_rules.specs.MoonTerms.{latitude_terms, longitude_distance_terms}
 use Rattle.sum_rules.specs.Table.{column, count}
 use Rattle.sum_rules.specs.declared.moon.Eccentricity.{Eccentricity}
 use Rattle.sum_terms.proofs.InstantLaws.{floor_size, p2_most, u_most, value_small}
 use Rattle.sum_terms.proofs.TableLaws.{bounded_rows, bounded_test}
-use Rattle.sum_terms.proofs.SumLoop.{Summing}
 use Rattle.sum_terms.proofs.TermLaws.{five}
 use Rattle.sum_rules.specs.MoonTerms as Of
 

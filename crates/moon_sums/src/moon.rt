@@ -2,9 +2,8 @@
 ghost use Rattle.std.specs.Prelude.{◌≡◌, ◌≤◌, ◌^◌, nat_abs};
 ghost use Rattle.sum_rules.specs.Instant.{furthest, Reached};
 ghost use Rattle.sum_rules.specs.Accuracy.{MoonNear};
-ghost use Rattle.sum_rules.specs.Table.{total};
 ghost use Rattle.sum_rules.specs.Moon.{arguments, eccentricity, weight, sine_term, cosine_term, added, longitude_added, latitude_added, longitude, latitude, metres};
-ghost use Rattle.moon_sums.specs.MoonRange.{Slight, SmallRow, Summable};
+ghost use Rattle.moon_sums.specs.MoonRange.{Slight, SmallRow};
 ghost use Rattle.sum_terms.specs.TermRange.{Turns};
 
 use numbers::angle::Angle;
@@ -12,9 +11,9 @@ use numbers::sine::sine;
 use numbers::whole::{absolute, floor_div};
 use sum_rules::instant::{Polynomial, Powers};
 use sum_rules::moon::Eccentricity;
-use sum_tables::moon_terms::{latitude_terms, longitude_distance_terms};
+use sum_tables::moon_terms::{LATITUDE, LONGITUDE_DISTANCE};
 use sum_terms::instant::{powers_at, value_at};
-use sum_terms::terms::{TermSums, angle_of, weighted};
+use sum_terms::terms::{RowTerms, TermSums, angle_of, term_sums, weighted};
 
 // L'.
 const MEAN_LONGITUDE: Polynomial = Polynomial {
@@ -151,33 +150,31 @@ fn weight(e: Eccentricity, m: i32, l: i32) -> i64
     }
 }
 
-// One row by sine and by cosine. No row's angle has L' in it.
-fn row_terms(arguments: [i64; 5], e: Eccentricity, row: [i32; 6]) -> TermSums
-    requires { Turns arguments × (Slight e × SmallRow row) }
-    ensures { (result.sine ≡ sine_term arguments e row) × (result.cosine ≡ cosine_term arguments e row) }
-{
-    let angle = angle_of(arguments, [0, row[0], row[1], row[2], row[3]]);
-    let first = weight(e, row[1], row[4]);
-    let second = weight(e, row[1], row[5]);
-    weighted(first, second, angle)
+// What the Moon's rows share: L', D, M, M', F, and E with E2.
+#[derive(Clone, Copy)]
+struct MoonTerms {
+    arguments: [i64; 5],
+    e: Eccentricity,
 }
 
-// All rows of a table by sine and by cosine.
-fn term_sums(arguments: [i64; 5], e: Eccentricity, terms: &[[i32; 6]]) -> TermSums
-    requires { Turns arguments × (Slight e × Summable terms.now) }
-    ensures { (result.sine ≡ total (sine_term arguments e) terms.now)
-        × (result.cosine ≡ total (cosine_term arguments e) terms.now) }
-{
-    let mut sine: i64 = 0;
-    let mut cosine: i64 = 0;
-    let mut i: usize = 0;
-    while i < terms.len() {
-        let row = row_terms(arguments, e, terms[i]);
-        sine = sine + row.sine;
-        cosine = cosine + row.cosine;
-        i = i + 1;
+impl RowTerms<6> for MoonTerms {
+    ghost takes = { λ s row. Turns s.arguments × (Slight s.e × SmallRow row) };
+
+    ghost sine = { λ s. sine_term s.arguments s.e };
+
+    ghost cosine = { λ s. cosine_term s.arguments s.e };
+
+    // No row's angle has L' in it.
+    fn row_terms(&self, row: [i32; 6]) -> TermSums
+        requires { Turns self.now.arguments × (Slight self.now.e × SmallRow row) }
+        ensures { (result.sine ≡ sine_term self.now.arguments self.now.e row)
+            × (result.cosine ≡ cosine_term self.now.arguments self.now.e row) }
+    {
+        let angle = angle_of(self.arguments, [0, row[0], row[1], row[2], row[3]]);
+        let first = weight(self.e, row[1], row[4]);
+        let second = weight(self.e, row[1], row[5]);
+        weighted(first, second, angle)
     }
-    TermSums { sine, cosine }
 }
 
 // A term outside the tables, at weight 100.
@@ -222,8 +219,9 @@ pub fn moon_at(t: Powers) -> MoonPlace
     let a1 = value_at(VENUS, t);
     let a2 = value_at(JUPITER, t);
     let a3 = value_at(THIRD, t);
-    let first = term_sums(arguments, e, &longitude_distance_terms());
-    let second = term_sums(arguments, e, &latitude_terms());
+    let terms = MoonTerms { arguments, e };
+    let first = term_sums(&terms, &LONGITUDE_DISTANCE);
+    let second = term_sums(&terms, &LATITUDE);
     let longitude_sum = longitude_added(first.sine, arguments, a1, a2);
     let latitude_sum = latitude_added(second.sine, arguments, a1, a3);
     MoonPlace {

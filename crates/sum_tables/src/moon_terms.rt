@@ -1,8 +1,8 @@
 // The Moon's periodic terms (003, Tables 1 and 2), as tables to lend.
-ghost use Rattle.std.specs.Prelude.{◌≡◌};
-ghost use Rattle.sum_rules.specs.MoonTerms.{longitude_distance_terms, latitude_terms};
+// That each is the table of the report: specs/AsPrinted.antt.
 
-const LONGITUDE_DISTANCE: [[i32; 6]; 60] = [
+// Multiples of D, M, M' and F, then l (by sine) and r (by cosine).
+pub static LONGITUDE_DISTANCE: [[i32; 6]; 60] = [
     [0, 0, 1, 0, 6_288_774, -20_905_355],
     [2, 0, -1, 0, 1_274_027, -3_699_111],
     [2, 0, 0, 0, 658_314, -2_955_968],
@@ -65,14 +65,8 @@ const LONGITUDE_DISTANCE: [[i32; 6]; 60] = [
     [2, 0, -1, -2, 0, 8752],
 ];
 
-// Multiples of D, M, M' and F, then l (by sine) and r (by cosine).
-pub fn longitude_distance_terms() -> [[i32; 6]; 60]
-    ensures { result ≡ longitude_distance_terms }
-{
-    LONGITUDE_DISTANCE
-}
-
-const LATITUDE: [[i32; 6]; 60] = [
+// Multiples of D, M, M' and F, then b (by sine) and none by cosine.
+pub static LATITUDE: [[i32; 6]; 60] = [
     [0, 0, 0, 1, 5_128_122, 0],
     [0, 0, 1, 1, 280_602, 0],
     [0, 0, 1, -1, 277_693, 0],
@@ -134,10 +128,3 @@ const LATITUDE: [[i32; 6]; 60] = [
     [4, -1, 0, -1, 115, 0],
     [2, -2, 0, 1, 107, 0],
 ];
-
-// Multiples of D, M, M' and F, then b (by sine) and none by cosine.
-pub fn latitude_terms() -> [[i32; 6]; 60]
-    ensures { result ≡ latitude_terms }
-{
-    LATITUDE
-}

@@ -1,8 +1,8 @@
 // The periodic terms of the nutation (004), as a table to lend.
-ghost use Rattle.std.specs.Prelude.{◌≡◌};
-ghost use Rattle.sum_rules.specs.NutationTerms.{nutation_terms};
+// That it is the table of the report: specs/AsPrinted.antt.
 
-const NUTATION: [[i32; 9]; 63] = [
+// Multiples of X0 to X4, then a, 10 b (by sine), c, 10 d (by cosine).
+pub static NUTATION: [[i32; 9]; 63] = [
     [0, 0, 0, 0, 1, -171_996, -1742, 92_025, 89],
     [-2, 0, 0, 2, 2, -13_187, -16, 5736, -31],
     [0, 0, 0, 2, 2, -2274, -2, 977, -5],
@@ -67,10 +67,3 @@ const NUTATION: [[i32; 9]; 63] = [
     [0, 0, 3, 2, 2, -3, 0, 0, 0],
     [2, -1, 0, 2, 2, -3, 0, 0, 0],
 ];
-
-// Multiples of X0 to X4, then a, 10 b (by sine), c, 10 d (by cosine).
-pub fn nutation_terms() -> [[i32; 9]; 63]
-    ensures { result ≡ nutation_terms }
-{
-    NUTATION
-}

@@ -1,8 +1,8 @@
 // The Sun's periodic terms (004, Table A4.2), as tables to lend: A, B times 10⁸, C times 10⁸.
-ghost use Rattle.std.specs.Prelude.{◌≡◌};
-ghost use Rattle.sum_rules.specs.SunTerms as SunTerms;
+// That each is the table of the report: specs/AsPrinted.antt.
 
-const L0: [[u64; 3]; 64] = [
+// Heliocentric longitude, group 0.
+pub static L0: [[u64; 3]; 64] = [
     [175_347_046, 0, 0],
     [3_341_656, 466_925_680, 628_307_585_000],
     [34_894, 462_610_000, 1_256_615_170_000],
@@ -69,14 +69,8 @@ const L0: [[u64; 3]; 64] = [
     [25, 316_000_000, 469_048_000_000],
 ];
 
-// Heliocentric longitude, group 0.
-pub fn l0() -> [[u64; 3]; 64]
-    ensures { result ≡ SunTerms.L0 }
-{
-    L0
-}
-
-const L1: [[u64; 3]; 34] = [
+// Heliocentric longitude, group 1.
+pub static L1: [[u64; 3]; 34] = [
     [628_331_966_747, 0, 0],
     [206_059, 267_823_500, 628_307_585_000],
     [4303, 263_510_000, 1_256_615_170_000],
@@ -113,14 +107,8 @@ const L1: [[u64; 3]; 34] = [
     [6, 467_000_000, 469_048_000_000],
 ];
 
-// Heliocentric longitude, group 1.
-pub fn l1() -> [[u64; 3]; 34]
-    ensures { result ≡ SunTerms.L1 }
-{
-    L1
-}
-
-const L2: [[u64; 3]; 20] = [
+// Heliocentric longitude, group 2.
+pub static L2: [[u64; 3]; 20] = [
     [52_919, 0, 0],
     [8720, 107_210_000, 628_307_580_000],
     [309, 86_700_000, 1_256_615_200_000],
@@ -143,14 +131,8 @@ const L2: [[u64; 3]; 20] = [
     [2, 375_000_000, 98_000_000],
 ];
 
-// Heliocentric longitude, group 2.
-pub fn l2() -> [[u64; 3]; 20]
-    ensures { result ≡ SunTerms.L2 }
-{
-    L2
-}
-
-const L3: [[u64; 3]; 7] = [
+// Heliocentric longitude, group 3.
+pub static L3: [[u64; 3]; 7] = [
     [289, 584_400_000, 628_307_600_000],
     [35, 0, 0],
     [17, 549_000_000, 1_256_615_000_000],
@@ -160,36 +142,18 @@ const L3: [[u64; 3]; 7] = [
     [1, 597_000_000, 24_273_000_000],
 ];
 
-// Heliocentric longitude, group 3.
-pub fn l3() -> [[u64; 3]; 7]
-    ensures { result ≡ SunTerms.L3 }
-{
-    L3
-}
-
-const L4: [[u64; 3]; 3] = [
+// Heliocentric longitude, group 4.
+pub static L4: [[u64; 3]; 3] = [
     [114, 314_200_000, 0],
     [8, 413_000_000, 628_308_000_000],
     [1, 384_000_000, 1_256_615_000_000],
 ];
 
-// Heliocentric longitude, group 4.
-pub fn l4() -> [[u64; 3]; 3]
-    ensures { result ≡ SunTerms.L4 }
-{
-    L4
-}
-
-const L5: [[u64; 3]; 1] = [[1, 314_000_000, 0]];
-
 // Heliocentric longitude, group 5.
-pub fn l5() -> [[u64; 3]; 1]
-    ensures { result ≡ SunTerms.L5 }
-{
-    L5
-}
+pub static L5: [[u64; 3]; 1] = [[1, 314_000_000, 0]];
 
-const B0: [[u64; 3]; 5] = [
+// Heliocentric latitude, group 0.
+pub static B0: [[u64; 3]; 5] = [
     [280, 319_900_000, 8_433_466_200_000],
     [102, 542_200_000, 550_755_300_000],
     [80, 388_000_000, 522_369_000_000],
@@ -197,26 +161,14 @@ const B0: [[u64; 3]; 5] = [
     [32, 400_000_000, 157_734_000_000],
 ];
 
-// Heliocentric latitude, group 0.
-pub fn b0() -> [[u64; 3]; 5]
-    ensures { result ≡ SunTerms.B0 }
-{
-    B0
-}
-
-const B1: [[u64; 3]; 2] = [
+// Heliocentric latitude, group 1.
+pub static B1: [[u64; 3]; 2] = [
     [9, 390_000_000, 550_755_000_000],
     [6, 173_000_000, 522_369_000_000],
 ];
 
-// Heliocentric latitude, group 1.
-pub fn b1() -> [[u64; 3]; 2]
-    ensures { result ≡ SunTerms.B1 }
-{
-    B1
-}
-
-const R0: [[u64; 3]; 40] = [
+// Radius, group 0.
+pub static R0: [[u64; 3]; 40] = [
     [100_013_989, 0, 0],
     [1_670_700, 309_846_350, 628_307_585_000],
     [13_956, 305_525_000, 1_256_615_170_000],
@@ -259,14 +211,8 @@ const R0: [[u64; 3]; 40] = [
     [26, 459_000_000, 1_044_739_000_000],
 ];
 
-// Radius, group 0.
-pub fn r0() -> [[u64; 3]; 40]
-    ensures { result ≡ SunTerms.R0 }
-{
-    R0
-}
-
-const R1: [[u64; 3]; 10] = [
+// Radius, group 1.
+pub static R1: [[u64; 3]; 10] = [
     [103_019, 110_749_000, 628_307_585_000],
     [1721, 106_440_000, 1_256_615_170_000],
     [702, 314_200_000, 0],
@@ -279,14 +225,8 @@ const R1: [[u64; 3]; 10] = [
     [9, 27_000_000, 548_678_000_000],
 ];
 
-// Radius, group 1.
-pub fn r1() -> [[u64; 3]; 10]
-    ensures { result ≡ SunTerms.R1 }
-{
-    R1
-}
-
-const R2: [[u64; 3]; 6] = [
+// Radius, group 2.
+pub static R2: [[u64; 3]; 6] = [
     [4359, 578_460_000, 628_307_580_000],
     [124, 557_900_000, 1_256_615_200_000],
     [12, 314_000_000, 0],
@@ -295,30 +235,11 @@ const R2: [[u64; 3]; 6] = [
     [3, 547_000_000, 1_884_923_000_000],
 ];
 
-// Radius, group 2.
-pub fn r2() -> [[u64; 3]; 6]
-    ensures { result ≡ SunTerms.R2 }
-{
-    R2
-}
-
-const R3: [[u64; 3]; 2] = [
+// Radius, group 3.
+pub static R3: [[u64; 3]; 2] = [
     [145, 427_300_000, 628_307_600_000],
     [7, 392_000_000, 1_256_615_000_000],
 ];
 
-// Radius, group 3.
-pub fn r3() -> [[u64; 3]; 2]
-    ensures { result ≡ SunTerms.R3 }
-{
-    R3
-}
-
-const R4: [[u64; 3]; 1] = [[4, 256_000_000, 628_308_000_000]];
-
 // Radius, group 4.
-pub fn r4() -> [[u64; 3]; 1]
-    ensures { result ≡ SunTerms.R4 }
-{
-    R4
-}
+pub static R4: [[u64; 3]; 1] = [[4, 256_000_000, 628_308_000_000]];

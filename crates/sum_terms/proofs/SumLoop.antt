@@ -1,6 +1,6 @@
 -- A loop that adds a row of a table at each turn: what it keeps holds the rows before i, and never passes 2⁶².
 -- `next` is a turn of it: from what is kept and what the row gave, that their sum fits and is what is kept after the turn.
-use mathlib.Core.List.{List, []}
+use mathlib.Core.List.{List}
 use mathlib.Core.Path.{◌∙◌, ◌≡◌, ap, sym}
 use Prim.Native.Nat.{◌+◌, ◌<◌, ◌^◌, ◌≤◌, suc, ℕ}
 use native.Mathlib.Nat.{le_trans}
@@ -12,16 +12,15 @@ use mir.Syntax.{w64}
 use mir.Val.{SFits, of_z, to_z}
 use Rattle.numbers.proofs.Machine.{Mirror, ◌⊕◌, bounded, fits, kept, of_bits, told}
 use Rattle.sum_rules.specs.Table.{count, total}
+use Rattle.sum_terms.specs.TermRange.{Summing}
 use Rattle.sum_terms.proofs.TableLaws.{count_row, take_all, total_most, total_next, total_size}
-
--- the rows by f are of sizes that add up to at most m
-pub record Summing {A : Type 0} (f : List A → ℤ) (rows : List (List A)) (m : ℕ) : Type 0 where
-  pub size : List A → ℕ
-  pub sized : (row : List A) → nat_abs (f row) ≤ size row
-  pub fit : count size rows ≤ m
 
 pub all_small : {A : Type 0} {f : List A → ℤ} {rows : List (List A)} {m : ℕ} → Summing f rows m → nat_abs (total f rows) ≤ m
 all_small {f} {rows} s = le_trans (total_size f s.size s.sized rows) s.fit
+
+-- and so at most more
+pub no_more : {A : Type 0} {f : List A → ℤ} {rows : List (List A)} {m k : ℕ} → Summing f rows m → T (leb m k) → Summing f rows k
+no_more {m} {k} s t = record { size = s.size; sized = s.sized; fit = le_trans s.fit (leb→le m k t) }
 
 -- a sum that holds the rows before i
 abbrev pub Summed : {A : Type 0} → (List A → ℤ) → List (List A) → ℕ → ℤ → Type 0
@@ -33,22 +32,22 @@ pub record Next {A : Type 0} (f : List A → ℤ) (rows : List (List A)) (i bits
 
 module _
     {A : Type 0} {f : List A → ℤ} {rows : List (List A)} {m : ℕ} (s : Summing f rows m) (t : T (leb m (2 ^ 62)))
-    (i bits : ℕ) {r : ℤ} (inside : i < length rows) (e : Summed f rows i (to_z w64 bits)) (h : r ≡ f (get_or rows i []))
+    (i bits : ℕ) {r : ℤ} (d : List A) (inside : i < length rows) (e : Summed f rows i (to_z w64 bits)) (h : r ≡ f (get_or rows i d))
   where
     fit_all : count s.size rows ≤ 2 ^ 62
     fit_all = le_trans s.fit (leb→le m (2 ^ 62) t)
 
-    added_is : total f (take i rows) +ℤ f (get_or rows i []) ≡ total f (take (suc i) rows)
-    added_is = sym (total_next f rows i [] inside)
+    added_is : total f (take i rows) +ℤ f (get_or rows i d) ≡ total f (take (suc i) rows)
+    added_is = sym (total_next f rows i d inside)
 
-    added_most : nat_abs (total f (take i rows) +ℤ f (get_or rows i [])) ≤ 2 ^ 62
+    added_most : nat_abs (total f (take i rows) +ℤ f (get_or rows i d)) ≤ 2 ^ 62
     added_most = rw added_is (le_trans (total_most f s.size s.sized rows (suc i)) fit_all)
 
     abbrev so_far : Mirror
     so_far = of_bits bits e (le_trans (total_most f s.size s.sized rows i) fit_all)
 
     abbrev row_gave : Mirror
-    row_gave = told {r = r} h (le_trans (s.sized (get_or rows i [])) (le_trans (count_row s.size rows i [] inside) fit_all)) tt
+    row_gave = told {r = r} h (le_trans (s.sized (get_or rows i d)) (le_trans (count_row s.size rows i d inside) fit_all)) tt
 
     pub next : Next f rows i bits r
     next =

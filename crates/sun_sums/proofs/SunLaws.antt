@@ -1,16 +1,18 @@
 -- Constant rows of the Sun's tables, and sizes of its rows and groups.
 use mathlib.Core.Bool.{Bool, ◌&&◌, true}
-use mathlib.Core.List.{List, [], ◌∷◌}
-use mathlib.Core.Path.{◌∙◌, ◌≡◌, ap, ap₂, refl, subst⁻¹, sym}
+use mathlib.Core.List.{List, [], ◌++◌, ◌∷◌, map}
+use mathlib.Core.Path.{◌∙◌, ◌≡◌, ap, ap₂, refl, subst, subst⁻¹, sym}
 use Prim.Native.Nat.{◌*◌, ◌+◌, ◌/◌, ◌<◌, ◌^◌, ◌≤◌, suc, zero, zero-le, ℕ}
 use native.Mathlib.Nat.{le_refl, le_trans, not-suc-le-zero, zero-lt-suc}
+use native.Mathlib.Numerals.{add-one}
 use native.Mathlib.Omega.{arith}
-use lib.Dec.{T, leb, leb→le, ltb, ltb→lt}
+use lib.Dec.{T, leb, leb→le}
 use lib.IntN.{◌*ℤ◌, ◌+ℤ◌, nat_abs, pos, ℤ}
 use lib.ListN.{drop, get_or, length}
-use lib.Seq.{drop-cons}
-use lib.Signed.{mag}
 use mir.Facts.{and_yes}
+use Rattle.std.specs.List.{push}
+use Rattle.std.proofs.Math.Seq.{drop-append_seam, get_or-append_seam}
+use Rattle.std.proofs.lemmas.List.{append-nil, append_assoc, length-append, length-map, map-append, nil_from_length}
 use Rattle.arithmetic.specs.Floor.{◌modulo◌, ⌊◌÷◌⌋}
 use Rattle.arithmetic.proofs.FloorLaws.{floor_most, modulo_below}
 use Rattle.arithmetic.proofs.Sizes.{add_bound, mul_bound}
@@ -18,17 +20,15 @@ use Rattle.arithmetic.proofs.Table.{at, every}
 use Rattle.number_rules.specs.Angle.{full_turn}
 use Rattle.number_rules.specs.Sine.{cosine}
 use Rattle.number_rules.proofs.SineSize.{cosine_most}
-use Rattle.numbers.proofs.Machine.{Mirror, gave}
-use Rattle.sum_rules.specs.Instant.{Reached, furthest, millennium, u}
+use Rattle.sum_rules.specs.Instant.{furthest, millennium, u}
 use Rattle.sum_rules.specs.Sun.{down, group, phase, row_A, row_B, row_C, row_angle, row_value, series}
-use Rattle.sun_sums.specs.SunRange.{SmallRay, Summable, spread}
+use Rattle.sun_sums.specs.SunRange.{SmallRay, Sound, Summable, spread, top}
 use Rattle.sum_rules.specs.SunTerms.{B_groups, B0, B1, L_groups, L0, L1, L2, L3, L4, L5, R_groups, R0, R1, R2, R3, R4}
 use Rattle.sum_rules.specs.Table.{count}
-use Rattle.sum_rules.specs.declared.instant.Powers.{Powers}
 use Rattle.sum_rules.proofs.ConstantRows.{angle_zero, cosine_zero}
 use Rattle.sum_terms.proofs.InstantLaws.{floor_size, u_most}
-use Rattle.sum_terms.proofs.SumLoop.{Summing}
 use Rattle.sum_terms.proofs.TableLaws.{total_size}
+use Rattle.sum_terms.specs.TermRange.{Summing}
 
 -- a row (A, 0, 0) is 100 A
 hundred : (a : ℕ) → ⌊ pos a *ℤ pos 1_000_000_000 ÷ 10_000_000 ⌋ ≡ pos (100 * a)
@@ -98,22 +98,6 @@ down_most n h (rows ∷ above) =
     add_bound (group n rows) ⌊ down n above *ℤ u n ÷ 10_000_000 ⌋ (group_most n rows)
     (floor_most (down n above *ℤ u n) 10_000_000 (level above * 1_011_001) (mul_bound (down n above) (u n) (down_most n h above) (u_most n h)))
 
--- what a group onto those above it gave
-pub down_is : (n : ℤ) (rows : List (List ℕ)) (above : List (List (List ℕ))) {r v : ℤ} {lent : List (List ℕ)}
-    → r ≡ group n lent +ℤ ⌊ v *ℤ u n ÷ 10_000_000 ⌋ → lent ≡ rows → v ≡ down n above → r ≡ down n (rows ∷ above)
-unfolding down
-down_is n rows above e a b = e ∙ (λ i. group n (a i) +ℤ ⌊ b i *ℤ u n ÷ 10_000_000 ⌋)
-
-pub series_is : (n : ℤ) (rows : List (List ℕ)) (above : List (List (List ℕ))) {r v m : ℤ} {lent : List (List ℕ)}
-    → r ≡ group m lent +ℤ ⌊ v *ℤ m ÷ millennium ⌋ → m ≡ n → lent ≡ rows → v ≡ down n above → r ≡ series n (rows ∷ above)
-unfolding series
-series_is n rows above e k a b = e ∙ (λ i. group (k i) (a i) +ℤ ⌊ b i *ℤ k i ÷ millennium ⌋)
-
--- v of the highest group
-pub none_above : (n : ℤ) → pos 0 ≡ down n []
-unfolding down
-none_above n = refl
-
 abbrev unless_zero : ℕ → Bool → Bool
 unless_zero zero b = true
 unless_zero (suc k) b = b
@@ -152,22 +136,12 @@ fits_group rows t =
       all = leb→le (count spread rows) (2 ^ 46) t₁.1;
     }
 
--- how large v may be that group k is handed: 2⁴⁶ into group 0, and 2⁴² above it
-abbrev pub top : ℕ → ℕ
-top zero = 2 ^ 46
-top (suc k) = 2 ^ 42
-
 unfoldable pub steady : (ℕ → ℕ) → List (List (List ℕ)) → Bool
 steady most [] = true
 steady most (rows ∷ others) = leb (level (rows ∷ others)) (most 0) && steady (λ k. most (suc k)) others
 
 unfoldable pub series_test : List (List (List ℕ)) → Bool
 series_test groups = every (λ _. fits_test) [] 0 groups && steady top (drop 1 groups)
-
--- every group of a series fits, and so does what each is handed
-pub record Sound (groups : List (List (List ℕ))) : Type 0 where
-  pub each : (k : ℕ) → k < length groups → Summable (get_or groups k [])
-  pub above : (n : ℤ) → nat_abs n ≤ furthest → (k : ℕ) → nat_abs (down n (drop k (drop 1 groups))) ≤ top k
 
 module _ (n : ℤ) (h : nat_abs n ≤ furthest) where
   steady_most : (most : ℕ → ℕ) (groups : List (List (List ℕ))) → T (steady most groups) → (k : ℕ) → nat_abs (down n (drop k groups)) ≤ most k
@@ -188,18 +162,6 @@ sound groups t =
       above = λ n h k. steady_most n h top (drop 1 groups) t₁.1 k;
     }
 
-module _ {groups : List (List (List ℕ))} (sound : Sound groups) (k : ℕ) where
-  -- group k of a series, lent
-  pub lent_fits : T (ltb k (length groups)) → {lent : List (List ℕ)} → lent ≡ get_or groups k [] → Summable lent
-  lent_fits t e = subst⁻¹ Summable e (sound.each k (ltb→lt k (length groups) t))
-
-  -- v for group k: what `onto` gave of the group above it, lent, and of v for that one
-  abbrev pub onto_gave : {t : Powers} → Reached t → T (ltb k (length (drop 1 groups))) → {r v : ℤ} {lent : List (List ℕ)} → mag r < 2 ^ 63
-      → r ≡ group t.n lent +ℤ ⌊ v *ℤ u t.n ÷ 10_000_000 ⌋ → lent ≡ get_or (drop 1 groups) k [] → v ≡ down t.n (drop (suc k) (drop 1 groups)) → Mirror
-  onto_gave {t} reached inside ok e a b =
-      gave ok (down_is t.n (get_or (drop 1 groups) k []) (drop (suc k) (drop 1 groups)) e a b
-      ∙ ap (down t.n) (sym (drop-cons (drop 1 groups) k [] (ltb→lt k (length (drop 1 groups)) inside)))) (sound.above t.n reached.near k)
-
 pub L_sound : Sound L_groups
 unfolding series_test fits_test small_test steady level count L0 L1 L2 L3 L4 L5
 L_sound = sound L_groups tt
@@ -211,3 +173,66 @@ B_sound = sound B_groups tt
 pub R_sound : Sound R_groups
 unfolding series_test fits_test small_test steady level count R0 R1 R2 R3 R4
 R_sound = sound R_groups tt
+
+-- the groups that are lent, told from their lists alone
+pub sound_of : {groups lent : List (List (List ℕ))} → Sound groups → lent ≡ groups → Sound lent
+sound_of s e = subst⁻¹ Sound e s
+
+pub series_of : (n : ℤ) {r : ℤ} {groups lent : List (List (List ℕ))} → r ≡ series n lent → lent ≡ groups → r ≡ series n groups
+series_of n is e = is ∙ ap (series n) e
+
+-- ---- a series, from the highest group down: v is of the groups that are done, and the others are left
+pub record Upto {A : Type 0} (rows : A → List (List ℕ)) (n : ℤ) (above left : List A) (v : ℤ) : Type 0 where
+  pub done : List A
+  pub all : left ++ done ≡ above
+  pub is : v ≡ down n (map rows done)
+
+module _ {A : Type 0} {rows : A → List (List ℕ)} {n : ℤ} {above left : List A} where
+  pub upto_begun : left ≡ above → Upto rows n above left (pos 0)
+  unfolding down
+  upto_begun e = record { done = []; all = append-nil left ∙ e; is = refl }
+
+  -- a group, taken from the end of those that are left
+  pub upto_next : {v r : ℤ} (next : List A) (x : A) → Upto rows n above left v → left ≡ push next x → r ≡ group n (rows x) +ℤ ⌊ v *ℤ u n ÷ 10_000_000 ⌋ → Upto rows n above next r
+  unfolding down
+  upto_next next x so e is = record {
+    done = x ∷ so.done;
+    all = sym (append_assoc next (x ∷ []) so.done) ∙ ap (λ (l : List A). l ++ so.done) (sym e) ∙ so.all;
+    is = is ∙ ap (λ (z : ℤ). group n (rows x) +ℤ ⌊ z *ℤ u n ÷ 10_000_000 ⌋) so.is;
+  }
+
+  -- and all of them
+  pub upto_all : {v : ℤ} → Upto rows n above left v → length left ≡ 0 → v ≡ down n (map rows above)
+  upto_all so e = so.is ∙ ap (λ (l : List A). down n (map rows l)) (ap (λ (l : List A). l ++ so.done) (sym (nil_from_length left e)) ∙ so.all)
+
+  module _ {first : List (List ℕ)} (sound : Sound (first ∷ map rows above)) (h : nat_abs n ≤ furthest) {v : ℤ} (so : Upto rows n above left v) where
+    split : map rows above ≡ map rows left ++ map rows so.done
+    split = ap (map rows) (sym so.all) ∙ map-append rows left so.done
+
+    pub upto_most : nat_abs v ≤ top (length left)
+    upto_most =
+        let e = ap (drop (length left)) split ∙ ap (λ (k : ℕ). drop k (map rows left ++ map rows so.done)) (sym (length-map left rows)) ∙ drop-append_seam (map rows left) (map rows so.done) in
+        subst⁻¹ (λ (z : ℤ). nat_abs z ≤ top (length left)) so.is (subst (λ (l : List (List (List ℕ))). nat_abs (down n l) ≤ top (length left)) e (sound.above n h (length left)))
+
+    -- the group to be taken
+    module _ (next : List A) (x : A) (e : left ≡ push next x) where
+      left_count : length left ≡ suc (length next)
+      left_count = ap length e ∙ length-append next (x ∷ []) ∙ add-one (length next)
+
+      whole : map rows above ≡ map rows next ++ rows x ∷ map rows so.done
+      whole = ap (map rows) (sym so.all ∙ ap (λ (l : List A). l ++ so.done) e ∙ append_assoc next (x ∷ []) so.done) ∙ map-append rows next (x ∷ so.done)
+
+      inside : suc (length next) < length (first ∷ map rows above)
+      inside = omega (arith, ap length whole, length-append (map rows next) (rows x ∷ map rows so.done), length-map next rows)
+
+      taken : get_or (map rows above) (length next) [] ≡ rows x
+      taken =
+          ap (λ (l : List (List (List ℕ))). get_or l (length next) []) whole
+          ∙ ap (λ (k : ℕ). get_or (map rows next ++ rows x ∷ map rows so.done) k []) (sym (length-map next rows))
+          ∙ get_or-append_seam (map rows next) (rows x) (map rows so.done) []
+
+      pub upto_fits : Summable (rows x)
+      upto_fits = subst Summable taken (sound.each (suc (length next)) inside)
+
+      pub upto_small : nat_abs v ≤ 2 ^ 42
+      upto_small = subst (λ (k : ℕ). nat_abs v ≤ top k) left_count upto_most

@@ -1,15 +1,15 @@
 // The Sun's sums: the Earth's heliocentric longitude L, latitude B and radius R, in 10⁻¹⁰ radian or AU, before any turn is taken off.
-ghost use Rattle.std.specs.Prelude.{◌≡◌, ◌≤◌, ◌^◌, nat_abs, ◌+ℤ◌, ◌*ℤ◌};
+ghost use Rattle.std.specs.Prelude.{◌≡◌, ◌≤◌, ◌^◌, nat_abs, ◌+ℤ◌, ◌*ℤ◌, ◌∷◌, map};
 ghost use Rattle.arithmetic.specs.Floor.{⌊◌÷◌⌋};
 ghost use Rattle.sum_rules.specs.Instant.{furthest, millennium, u, Reached};
 ghost use Rattle.sum_rules.specs.Accuracy.{SunNear};
-ghost use Rattle.sum_rules.specs.Sun.{phase, row_angle, row_value, group, L, B, R, longitude_degrees, latitude_degrees};
-ghost use Rattle.sun_sums.specs.SunRange.{SmallRay, Summable};
+ghost use Rattle.sum_rules.specs.Sun.{phase, row_angle, row_value, group, series, L, B, R, longitude_degrees, latitude_degrees};
+ghost use Rattle.sun_sums.specs.SunRange.{SmallRay, Sound, Summable};
 
 use numbers::sine::cosine;
 use numbers::whole::{floor_div, floor_mod, mul_div};
 use sum_rules::instant::{CENTURY, Powers};
-use sum_tables::sun_terms::{b0, b1, l0, l1, l2, l3, l4, l5, r0, r1, r2, r3, r4};
+use sum_tables::sun_terms::{B0, B1, L0, L1, L2, L3, L4, L5, R0, R1, R2, R3, R4};
 use sum_terms::instant::powers_at;
 
 const MILLENNIUM: u64 = 10 * CENTURY;
@@ -58,11 +58,9 @@ fn group(n: i64, rows: &[[u64; 3]]) -> i64
     requires { (nat_abs n ≤ furthest) × Summable rows.now }
     ensures { result ≡ group n rows.now }
 {
-    let mut sum: i64 = 0;
-    let mut i: usize = 0;
-    while i < rows.len() {
-        sum = sum + row_value(n, rows[i]);
-        i = i + 1;
+    let mut sum = 0;
+    for row in rows {
+        sum += row_value(n, *row);
     }
     sum
 }
@@ -83,17 +81,24 @@ fn into_first(n: i64, rows: &[[u64; 3]], v: i64) -> i64
     group(n, rows) + mul_div(v, n, MILLENNIUM)
 }
 
+// The groups above group 0, from the highest down, and then group 0.
+fn series(t: Powers, first: &[[u64; 3]], above: &[&[[u64; 3]]]) -> i64
+    requires { Reached t × Sound (first.now ∷ map (λ rows. rows.now) above.now) }
+    ensures { result ≡ series t.n (first.now ∷ map (λ rows. rows.now) above.now) }
+{
+    let mut v = 0;
+    for rows in above.iter().rev() {
+        v = onto(t, rows, v);
+    }
+    into_first(t.n, first, v)
+}
+
 // L.
 fn heliocentric_longitude(t: Powers) -> i64
     requires { Reached t }
     ensures { result ≡ L t.n }
 {
-    let v5 = onto(t, &l5(), 0);
-    let v4 = onto(t, &l4(), v5);
-    let v3 = onto(t, &l3(), v4);
-    let v2 = onto(t, &l2(), v3);
-    let v1 = onto(t, &l1(), v2);
-    into_first(t.n, &l0(), v1)
+    series(t, &L0, &[&L1, &L2, &L3, &L4, &L5])
 }
 
 // B.
@@ -101,8 +106,7 @@ fn heliocentric_latitude(t: Powers) -> i64
     requires { Reached t }
     ensures { result ≡ B t.n }
 {
-    let v1 = onto(t, &b1(), 0);
-    into_first(t.n, &b0(), v1)
+    series(t, &B0, &[&B1])
 }
 
 // R.
@@ -110,11 +114,7 @@ fn heliocentric_radius(t: Powers) -> i64
     requires { Reached t }
     ensures { result ≡ R t.n }
 {
-    let v4 = onto(t, &r4(), 0);
-    let v3 = onto(t, &r3(), v4);
-    let v2 = onto(t, &r2(), v3);
-    let v1 = onto(t, &r1(), v2);
-    into_first(t.n, &r0(), v1)
+    series(t, &R0, &[&R1, &R2, &R3, &R4])
 }
 
 // The Sun's sums at TT, over the powers of the instant.

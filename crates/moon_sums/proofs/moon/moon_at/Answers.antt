@@ -1,16 +1,20 @@
 -- `moon_sums::moon::moon_at` meets its contract. The arguments, E and A1 to A3 are worked out first; the rows of both tables, and what is added to
 -- them, then go by these, and the floors of the sums are the place.
+use mathlib.Core.List.{List, []}
 use mathlib.Core.Path.{◌∙◌, ◌≡◌, ap, subst⁻¹}
-use Prim.Native.Nat.{◌≤◌}
+use Prim.Native.Nat.{◌<◌, ◌^◌, ◌≤◌, ℕ}
+use lib.Dec.{lit<}
 use lib.IntN.{nat_abs, pos, ℤ}
+use lib.ListN.{get_or, length}
 use Rattle.number_rules.specs.Angle.{reduced}
 use Rattle.numbers.proofs.Machine.{Mirror, ◌⊕◌, asked, fits, floor_gave, gave, kept, lit, some_gave, told}
 use Rattle.sum_rules.specs.Instant.{furthest}
 use Rattle.sum_rules.specs.Moon.{arguments, by_cosine, by_sine, cosine_term, eccentricity, latitude, latitude_added, latitude_sum, longitude, longitude_added, longitude_sum, metres, sine_term}
-use Rattle.moon_sums.specs.MoonRange.{Slight, Summable}
-use Rattle.sum_terms.specs.TermRange.{Turns}
+use Rattle.moon_sums.specs.MoonRange.{Slight, SmallRow, Summable}
+use Rattle.sum_terms.specs.TermRange.{Summing, Turns}
 use Rattle.sum_rules.specs.MoonTerms.{A1, A2, A3, L', latitude_terms, longitude_distance_terms}
 use Rattle.sum_rules.specs.Table.{column, total}
+use Rattle.sum_rules.specs.declared.moon.Eccentricity.{Eccentricity}
 use Rattle.sum_rules.proofs.Accurate.{moon_near}
 use Rattle.sum_terms.proofs.InstantLaws.{value_small}
 use Rattle.moon_sums.proofs.MoonLaws.{arguments_turn, cosine_summing, eccentricity_slight, latitude_fits, longitude_distance_fits, sine_summing}
@@ -53,6 +57,26 @@ module _ (v : After-value_at-a3) where
   abbrev a3 : Mirror
   a3 = gave v.value_at-a3.type_inv v.value_at-a3.ensures (value_small A3 n)
 
+  abbrev args : List ℤ
+  args = at_arguments.arguments-arguments.result
+
+  abbrev e : Eccentricity
+  e = at_e.eccentricity_at-e.result
+
+  -- what the rows of a table ask
+  asked_of : (terms : List (List ℤ)) → Summable terms
+      → (24 < 2 ^ 63) × (((i : ℕ) → i < length terms → Turns args × (Slight e × SmallRow (get_or terms i []))) × (Summing (sine_term args e) terms (2 ^ 62) × Summing (cosine_term args e) terms (2 ^ 62)))
+  asked_of terms fit = (
+    lit< tt,
+    (
+      λ i h. (turns, (slight, fit.each i h)),
+      (
+        sine_summing args e slight terms fit,
+        cosine_summing args e slight terms fit,
+      ),
+    ),
+  )
+
 -- that state, from each later one
 abbrev values : After-term_sums-first → After-value_at-a3
 values c = (goal.at.After-term_sums-first c).After-value_at-a3
@@ -72,12 +96,12 @@ module _ (c : After-term_sums-first) where
   v₁ = values c
 
   first_sine : c.term_sums-first.result.sine ≡ by_sine (n v₁) longitude_distance_terms
-  first_sine = c.term_sums-first.ensures.0
-      ∙ (λ i. total (sine_term ((at_arguments v₁).arguments-arguments.ensures i) ((at_e v₁).eccentricity_at-e.ensures i)) (c.longitude_distance_terms.ensures i))
+  unfolding longitude_distance_terms
+  first_sine = c.term_sums-first.ensures.0 ∙ (λ i. total (sine_term ((at_arguments v₁).arguments-arguments.ensures i) ((at_e v₁).eccentricity_at-e.ensures i)) longitude_distance_terms)
 
   first_cosine : c.term_sums-first.result.cosine ≡ by_cosine (n v₁) longitude_distance_terms
-  first_cosine = c.term_sums-first.ensures.1
-      ∙ (λ i. total (cosine_term ((at_arguments v₁).arguments-arguments.ensures i) ((at_e v₁).eccentricity_at-e.ensures i)) (c.longitude_distance_terms.ensures i))
+  unfolding longitude_distance_terms
+  first_cosine = c.term_sums-first.ensures.1 ∙ (λ i. total (cosine_term ((at_arguments v₁).arguments-arguments.ensures i) ((at_e v₁).eccentricity_at-e.ensures i)) longitude_distance_terms)
 
   abbrev longitude_rows : Mirror
   longitude_rows =
@@ -92,8 +116,8 @@ module _ (c : After-term_sums-second) where
   v₂ = values2 c
 
   second_sine : c.term_sums-second.result.sine ≡ by_sine (n v₂) latitude_terms
-  second_sine = c.term_sums-second.ensures.0
-      ∙ (λ i. total (sine_term ((at_arguments v₂).arguments-arguments.ensures i) ((at_e v₂).eccentricity_at-e.ensures i)) (c.latitude_terms.ensures i))
+  unfolding latitude_terms
+  second_sine = c.term_sums-second.ensures.0 ∙ (λ i. total (sine_term ((at_arguments v₂).arguments-arguments.ensures i) ((at_e v₂).eccentricity_at-e.ensures i)) latitude_terms)
 
   abbrev latitude_rows : Mirror
   latitude_rows =
@@ -128,14 +152,16 @@ metres_total c =
     lit (pos 385_000_560) ⊕ floor_gave (distance_rows rows) 100_000_000_000 c.floor_div-3.type_inv c.floor_div-3.ensures
 
 pub term_sums-first-requires : goal.term_sums-first-requires
+unfolding longitude_distance_terms
 term_sums-first-requires c =
     let v = (goal.at.term_sums-first-requires c).After-value_at-a3 in
-    (turns v, (slight v, subst⁻¹ Summable c.longitude_distance_terms.ensures longitude_distance_fits))
+    asked_of v longitude_distance_terms longitude_distance_fits
 
 pub term_sums-second-requires : goal.term_sums-second-requires
+unfolding latitude_terms
 term_sums-second-requires c =
     let v = values (goal.at.term_sums-second-requires c).After-term_sums-first in
-    (turns v, (slight v, subst⁻¹ Summable c.latitude_terms.ensures latitude_fits))
+    asked_of v latitude_terms latitude_fits
 
 pub longitude_added-longitude_sum-requires : goal.longitude_added-longitude_sum-requires
 longitude_added-longitude_sum-requires c =

@@ -1,4 +1,4 @@
--- `moon_sums::moon::row_terms` meets its contract.
+-- `moon_sums::moon::MoonTermsRowTerms6::row_terms` meets its contract.
 use mathlib.Core.List.{List, [], ◌∷◌}
 use mathlib.Core.Path.{◌∙◌, ◌≡◌, ap}
 use Prim.Native.Nat.{zero-le}
@@ -15,15 +15,15 @@ use Rattle.sum_terms.specs.TermRange.{Few, angle_of}
 use Rattle.moon_sums.proofs.MoonLaws.{moon_angle, weight_small}
 use Rattle.sum_terms.proofs.NarrowMirror.{column_handed, column_most, column_same}
 use Rattle.sum_terms.proofs.TermLaws.{five}
-use Rattle.moon_sums.proofs.moon.row_terms.Goals as goal
-use Rattle.moon_sums.proofs.moon.row_terms.Goals.{After-angle_of-angle, After-weight-first, After-weight-second, Start}
+use Rattle.moon_sums.proofs.moon.MoonTermsRowTerms6.row_terms.Goals as goal
+use Rattle.moon_sums.proofs.moon.MoonTermsRowTerms6.row_terms.Goals.{After-angle_of-angle, After-weight-first, After-weight-second, Start}
 
 module _ (s : Start) where
   abbrev args : List ℤ
-  args = s.args.arguments
+  args = s.args.self.now.arguments
 
   abbrev e : Eccentricity
-  e = s.args.e
+  e = s.args.self.now.e
 
   abbrev row : List ℤ
   row = s.args.row
@@ -48,13 +48,13 @@ module _ (s : Start) where
 
 -- where the function began, from each call
 abbrev from_angle : After-angle_of-angle → Start
-from_angle c = c.before.before.before.before.before
+from_angle c = (goal.at.After-angle_of-angle c).Start
 
 abbrev from_first : After-weight-first → Start
-from_first c = from_angle c.before.before.before
+from_first c = from_angle (goal.at.After-weight-first c).After-angle_of-angle
 
 abbrev from_second : After-weight-second → Start
-from_second c = from_first c.before.before.before
+from_second c = from_first (goal.at.After-weight-second c).After-weight-first
 
 angle_is : (c : After-angle_of-angle) → to_z w64 (of_z w64 c.angle_of-angle.result) ≡ row_angle (args (from_angle c)) (row (from_angle c))
 angle_is c =
@@ -92,7 +92,7 @@ weighted-requires c = (asked (first (goal.at.weighted-requires c).After-weight-f
 pub returns : goal.returns
 returns c =
     let w = (goal.at.returns c).After-weight-first in
-    let angle = angle_is w.before.before.before in (
+    let angle = angle_is (goal.at.After-weight-first w).After-angle_of-angle in (
       c.weighted.ensures.0 ∙ (λ i. (first w).same i *ℤ sine (angle i)),
       c.weighted.ensures.1 ∙ (λ i. (second (goal.at.returns c).After-weight-second).same i *ℤ cosine (angle i)),
     )
