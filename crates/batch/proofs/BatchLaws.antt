@@ -4,11 +4,11 @@ use mathlib.Core.List.{List, [], ◌∷◌, append_assoc, map, map-append}
 use mathlib.Core.Path.{◌∙◌, ◌≡◌, ap, refl, subst, subst⁻¹, sym}
 use Prim.Native.Nat.{◌*◌, ◌+◌, ◌-◌, ◌/◌, ◌<◌, ◌^◌, ◌≤◌, suc, zero, zero-le, ℕ}
 use native.Mathlib.Nat.{le_of_lt, le_trans, lt_of_lt_of_le}
-use native.Mathlib.Numerals.{add-one}
+use native.Mathlib.Numerals.{add-one, one-add}
 use native.Mathlib.Omega.{arith}
-use lib.Dec.{leb→le}
+use lib.Dec.{leb→le, ltb}
 use lib.IntN.{◌*ℤ◌, ◌+ℤ◌, nat_abs, pos, ℤ}
-use lib.ListN.{drop, drop_of_length-le, get_or, length, length-map, set, take}
+use lib.ListN.{get_or, length, length-map, set, take}
 use lib.Seq.{drop-cons, length-take-le, set_at, take_all, take-suc}
 use lib.Signed.{◌<ℤ◌, ◌≤ℤ◌, lt_z_no, mag}
 use mir.Syntax.{w64}
@@ -23,11 +23,16 @@ use Rattle.number_rules.specs.Calendar.{day_count, day_number, days_from_2000, d
 use Rattle.request.proofs.RequestLaws.{accepted}
 use Rattle.batch.specs.Batch.{BatchAnswer, EndsWith2100, batch_answer, filled, first_late, is_late, last_moment, later}
 use Rattle.calendar.specs.Refusal.{OneAnswer, first}
+use Rattle.calendar.specs.declared.refusal.Refusal.{Refusal}
 use Rattle.calendar.proofs.RefusalLaws.{never_late, never_none, number_tells, one_answer}
 use Rattle.request.specs.Request.{date, elapsed, instant, start_refusals, utc}
 use Rattle.sky_vectors.specs.SkyRange.{Reachable}
-use Rattle.batch.specs.declared.samples.Batch.{Batch}
-use Rattle.batch.specs.declared.samples.Batch.TheVariants.{Done, Late, Refused}
+use Rattle.batch.specs.declared.samples.BatchRefusal.{BatchRefusal}
+use Rattle.batch.specs.declared.samples.BatchRefusal.TheVariants.{Late, Request}
+use borrow.Author.Tests.{ltb-false, ltb-true}
+use Rattle.std.specs.Prelude.{Err, None, Ok, Result, Some, position}
+use Rattle.std.specs.List.{position_or_len}
+use Rattle.std.proofs.lemmas.List.Recursion.{is_position_or_len}
 use Rattle.request.specs.declared.start.Start.{Start}
 use Rattle.sum_rules.proofs.AcceptedInstants.{clock_small, terrestrial_near, universal_near}
 use Rattle.sum_rules.specs.Instant.{Accepted, day, furthest}
@@ -41,20 +46,6 @@ pub ends_with_2100 : EndsWith2100
 ends_with_2100 = ap (λ (z : ℤ). z +ℤ pos 1) last_is ∙ ap (λ (z : ℤ). pos day *ℤ z) (sym day_after_last_is)
 
 -- ---- the search
-module _ (start : ℤ) (offsets : List ℕ) where
-  pub late_here : (i : ℕ) → i < length offsets → is_late start (get_or offsets i 0) ≡ true → first_late start (drop i offsets) ≡ 0
-  unfolding first_late
-  late_here i h late = rw (drop-cons offsets i 0 h, late) refl
-
-  pub in_time_here : (i : ℕ) → i < length offsets → is_late start (get_or offsets i 0) ≡ false
-      → first_late start (drop i offsets) ≡ suc (first_late start (drop (suc i) offsets))
-  unfolding first_late
-  in_time_here i h in_time = rw (drop-cons offsets i 0 h, in_time) refl
-
-  pub none_left : (i : ℕ) → length offsets ≤ i → first_late start (drop i offsets) ≡ 0
-  unfolding first_late
-  none_left i h = rw (drop_of_length-le offsets h) refl
-
 pub late_most : (start : ℤ) (offsets : List ℕ) → first_late start offsets ≤ length offsets
 unfolding first_late
 late_most start [] = zero-le
@@ -78,6 +69,26 @@ all_in_time start (offset ∷ rest) e (suc i) h = all_in_time start rest (go (is
     go : (b : Bool) → cond b 0 (suc (first_late start rest)) ≡ suc (length rest) → first_late start rest ≡ length rest
     go true e = absurd (omega (arith, e))
     go false e = omega (arith, e)
+
+-- what a search gave: the first bad index, or none
+module _ (start : ℤ) (offsets : List ℕ) where
+  first_is : first_late start offsets ≡ position_or_len (is_late start) offsets
+  unfolding first_late
+  first_is = is_position_or_len (first_late start) (is_late start) refl (λ offset rest. rw one-add) offsets
+
+  pub found_late : (i : ℕ) → position (is_late start) offsets ≡ Some i → (first_late start offsets ≡ i) × (i < length offsets)
+  found_late i e = go (position_or_len (is_late start) offsets) (length offsets) (ltb (position_or_len (is_late start) offsets) (length offsets)) refl first_is e
+    where
+      go : (n m : ℕ) (b : Bool) → ltb n m ≡ b → first_late start offsets ≡ n → cond b (Some n) None ≡ Some i → (first_late start offsets ≡ i) × (i < m)
+      go n m true within is e = let same : n ≡ i = cc in (is ∙ same, omega (arith, ltb-true n m within, same))
+      go n m false within is e = cc
+
+  pub found_none : position (is_late start) offsets ≡ None → first_late start offsets ≡ length offsets
+  found_none e = go (position_or_len (is_late start) offsets) (ltb (position_or_len (is_late start) offsets) (length offsets)) refl first_is e
+    where
+      go : (n : ℕ) (b : Bool) → ltb n (length offsets) ≡ b → first_late start offsets ≡ n → cond b (Some n) None ≡ None → first_late start offsets ≡ length offsets
+      go n true within is e = cc
+      go n false within is e = omega (arith, ltb-false n (length offsets) within, is, late_most start offsets)
 
 -- ---- the writing
 module _ (entry : ℕ → ℤ) (offsets : List ℕ) (before : List ℤ) where
@@ -152,16 +163,16 @@ utc_small s e = le_trans (clock_small (accepted s e)) (leb→le (36_890 * day) (
 refusal_same : {x y : BatchAnswer} → x ≡ y → x.refusal ≡ y.refusal
 refusal_same same = ap (λ (a : BatchAnswer). a.refusal) same
 
-batch_tells : (x y : Batch) → batch_answer x ≡ batch_answer y → x ≡ y
-batch_tells (Done m) (Done n) same = ap (λ (a : BatchAnswer). Done a.count) same
-batch_tells (Done m) (Refused r) same = absurd (never_none r (sym (refusal_same same)))
-batch_tells (Done m) (Late i) same = absurd (omega (arith, refusal_same same))
-batch_tells (Refused r) (Done n) same = absurd (never_none r (refusal_same same))
-batch_tells (Refused r) (Refused s) same = ap Refused (number_tells r s (refusal_same same))
-batch_tells (Refused r) (Late i) same = absurd (never_late r (refusal_same same))
-batch_tells (Late i) (Done n) same = absurd (omega (arith, refusal_same same))
-batch_tells (Late i) (Refused r) same = absurd (never_late r (sym (refusal_same same)))
-batch_tells (Late i) (Late j) same = ap (λ (a : BatchAnswer). Late a.index) same
+batch_tells : (x y : Result ℕ BatchRefusal) → batch_answer x ≡ batch_answer y → x ≡ y
+batch_tells (Ok m) (Ok n) same = ap (λ (a : BatchAnswer). Ok a.count) same
+batch_tells (Ok m) (Err (Request r)) same = absurd (never_none r (sym (refusal_same same)))
+batch_tells (Ok m) (Err (Late i)) same = absurd (omega (arith, refusal_same same))
+batch_tells (Err (Request r)) (Ok n) same = absurd (never_none r (refusal_same same))
+batch_tells (Err (Request r)) (Err (Request s)) same = ap (λ (r : Refusal). Err (Request r)) (number_tells r s (refusal_same same))
+batch_tells (Err (Request r)) (Err (Late i)) same = absurd (never_late r (refusal_same same))
+batch_tells (Err (Late i)) (Ok n) same = absurd (omega (arith, refusal_same same))
+batch_tells (Err (Late i)) (Err (Request r)) same = absurd (never_late r (sym (refusal_same same)))
+batch_tells (Err (Late i)) (Err (Late j)) same = ap (λ (a : BatchAnswer). Err (Late a.index)) same
 
-pub one_batch : {found : Batch} {rule : BatchAnswer} → batch_answer found ≡ rule → OneAnswer batch_answer rule found
+pub one_batch : {found : Result ℕ BatchRefusal} {rule : BatchAnswer} → batch_answer found ≡ rule → OneAnswer batch_answer rule found
 one_batch = one_answer batch_tells

@@ -1,14 +1,13 @@
 -- Batch (01, "A request and its numbered refusals"): many samples from one start.
-use Rattle.std.specs.Prelude.{Bool, ◌&&◌, cond, List, [], ◌++◌, ◌∷◌, map, ◌↔◌, ◌≡◌, ◌<◌, suc, ℕ, eqb, leb, ◌*ℤ◌, ◌+ℤ◌, pos, ℤ, drop, get_or, length}
+use Rattle.std.specs.Prelude.{Bool, ◌&&◌, cond, List, [], ◌++◌, ◌∷◌, map, Err, None, Ok, Result, ◌↔◌, ◌≡◌, ◌<◌, suc, ℕ, eqb, leb, ◌*ℤ◌, ◌+ℤ◌, pos, ℤ, drop, get_or, length}
 use Rattle.std.specs.Int.Signed.{lt_z}
 use Rattle.arctangent.specs.Direction.{azimuth_numbers, mark}
-use Rattle.arctangent.specs.declared.direction.Direction.TheVariants.{None}
 use Rattle.sky_vectors.specs.Place.{place_at, place_from}
 use Rattle.sky_vectors.specs.SkyRange.{Reachable}
 use Rattle.calendar.specs.Refusal.{◌unless◌, first, number}
 use Rattle.request.specs.Request.{fraction_limit, moved, point_refusals, start_refusals, utc}
-use Rattle.batch.specs.declared.samples.Batch.{Batch}
-use Rattle.batch.specs.declared.samples.Batch.TheVariants.{Done, Late, Refused}
+use Rattle.batch.specs.declared.samples.BatchRefusal.{BatchRefusal}
+use Rattle.batch.specs.declared.samples.BatchRefusal.TheVariants.{Late, Request}
 use Rattle.sky_vectors.specs.declared.geocentric.Body.{Body}
 use Rattle.sky_vectors.specs.declared.station.Point.{Point}
 use Rattle.sky_vectors.specs.declared.station.Runner.{Runner}
@@ -22,10 +21,10 @@ pub record BatchAnswer : Type 0 where
   pub index : ℕ
   pub count : ℕ
 
-abbrev pub batch_answer : Batch → BatchAnswer
-batch_answer (Done n) = record { refusal = 0; index = 0; count = n }
-batch_answer (Refused refusal) = record { refusal = number refusal; index = 0; count = 0 }
-batch_answer (Late i) = record { refusal = 13; index = i; count = 0 }
+abbrev pub batch_answer : Result ℕ BatchRefusal → BatchAnswer
+batch_answer (Ok n) = record { refusal = 0; index = 0; count = n }
+batch_answer (Err (Request refusal)) = record { refusal = number refusal; index = 0; count = 0 }
+batch_answer (Err (Late i)) = record { refusal = 13; index = i; count = 0 }
 
 -- 2100-12-31 23:59:59.999 UTC
 unfoldable pub last_moment : ℤ
