@@ -9,6 +9,7 @@ use lib.Dec.{ltb}
 use lib.IntN.{◌-ℤ◌, pos, ℤ}
 use lib.Signed.{lt_z}
 use borrow.Author.Tests.{le-ltb, lt-ltb}
+use Rattle.std.specs.Prelude.{None, Option, Some}
 use Rattle.calendar.proofs.RefusalLaws.{one_answer}
 use Rattle.calendar.specs.Refusal.{OneAnswer}
 use Rattle.day.proofs.CurveLaws.{below_entry}
@@ -23,19 +24,17 @@ use Rattle.sky_vectors.specs.declared.station.Point.{Point}
 use Rattle.rise_set.specs.Claims.{First, FirstOrNone, NeverTogether, Nowhere, OneSide}
 use Rattle.rise_set.specs.Crossing.{CrossingNumbers, at_minute, at_none, crosses, crossing_numbers, first_minute, has_before, is_at, is_up, up_at, up_before}
 use Rattle.rise_set.specs.Worked.{crosses_in, entry}
-use Rattle.rise_set.specs.declared.crossing.Crossing.{Crossing}
-use Rattle.rise_set.specs.declared.crossing.Crossing.TheVariants.{Minute, None}
 use Rattle.rise_set.specs.declared.crossing.Event.{Event}
 use Rattle.rise_set.specs.declared.crossing.Event.TheVariants.{Rise, Set}
 
 -- ---- one answer and no other
-pub crossing_tells : (x y : Crossing) → crossing_numbers x ≡ crossing_numbers y → x ≡ y
-crossing_tells (Minute m) (Minute n) same = ap (λ (c : CrossingNumbers). Minute c.minute) same
-crossing_tells (Minute m) None same = let never : ◌≡◌ {A = ℕ} 1 0 = ap (λ (c : CrossingNumbers). c.has) same in absurd (omega (arith, never))
-crossing_tells None (Minute n) same = let never : ◌≡◌ {A = ℕ} 0 1 = ap (λ (c : CrossingNumbers). c.has) same in absurd (omega (arith, never))
+pub crossing_tells : (x y : Option ℕ) → crossing_numbers x ≡ crossing_numbers y → x ≡ y
+crossing_tells (Some m) (Some n) same = ap (λ (c : CrossingNumbers). Some c.minute) same
+crossing_tells (Some m) None same = let never : ◌≡◌ {A = ℕ} 1 0 = ap (λ (c : CrossingNumbers). c.has) same in absurd (omega (arith, never))
+crossing_tells None (Some n) same = let never : ◌≡◌ {A = ℕ} 0 1 = ap (λ (c : CrossingNumbers). c.has) same in absurd (omega (arith, never))
 crossing_tells None None same = refl
 
-pub one_crossing : {found : Crossing} {rule : CrossingNumbers} → crossing_numbers found ≡ rule → OneAnswer crossing_numbers rule found
+pub one_crossing : {found : Option ℕ} {rule : CrossingNumbers} → crossing_numbers found ≡ rule → OneAnswer crossing_numbers rule found
 one_crossing = one_answer crossing_tells
 
 -- ---- what is given, for any test

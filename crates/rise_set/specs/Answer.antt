@@ -1,15 +1,14 @@
 -- The answer to a day's request (02, Item 1): the curve, its rise and its set.
-use Rattle.std.specs.Prelude.{cond, List, eqb, ℤ}
-use Rattle.calendar.specs.Refusal.{first, number}
+use Rattle.std.specs.Prelude.{Result, cond, List, eqb, ℤ}
+use Rattle.calendar.specs.Refusal.{first}
+use Rattle.calendar.specs.declared.refusal.Refusal.{Refusal}
 use Rattle.day.specs.Date.{day_refusals}
 use Rattle.day.specs.declared.date.Date.{Date}
-use Rattle.sky.specs.Answer.{Answer, judged}
+use Rattle.sky.specs.Answer.{Answer, answered, judged}
 use Rattle.sky_vectors.specs.declared.geocentric.Body.{Body}
 use Rattle.sky_vectors.specs.declared.station.Point.{Point}
 use Rattle.rise_set.specs.Crossing.{CrossingNumbers, at_none, crossing_numbers, first_minute, is_at}
 use Rattle.rise_set.specs.declared.answer.RiseSet.{RiseSet}
-use Rattle.rise_set.specs.declared.answer.RiseSetAnswer.{RiseSetAnswer}
-use Rattle.rise_set.specs.declared.answer.RiseSetAnswer.TheVariants.{Refused, Seen}
 use Rattle.rise_set.specs.declared.crossing.Event.TheVariants.{Rise, Set}
 
 -- rise and set, in numbers
@@ -23,9 +22,8 @@ rise_set_numbers seen = record { rise = crossing_numbers seen.rise; set = crossi
 abbrev pub neither : RiseSetNumbers
 neither = record { rise = at_none; set = at_none }
 
-abbrev pub rise_set_answer : RiseSetAnswer → Answer RiseSetNumbers
-rise_set_answer (Seen seen) = record { refusal = 0; value = rise_set_numbers seen }
-rise_set_answer (Refused refusal) = record { refusal = number refusal; value = neither }
+abbrev pub rise_set_answer : Result RiseSet Refusal → Answer RiseSetNumbers
+rise_set_answer = answered rise_set_numbers neither
 
 -- the first minute that is a rise, and the first that is a set
 abbrev pub crossings : Date → Body → Point → RiseSetNumbers

@@ -1,5 +1,5 @@
 -- Rise and set (02, Item 1).
-use Rattle.std.specs.Prelude.{Bool, ◌&&◌, cond, not, true, suc, zero, ℕ, ltb, ◌-ℤ◌, pos, ℤ}
+use Rattle.std.specs.Prelude.{Bool, None, Option, Some, ◌&&◌, cond, not, true, suc, zero, ℕ, ltb, ◌-ℤ◌, pos, ℤ}
 use Rattle.std.specs.Int.Signed.{le_z, lt_z}
 use Rattle.day.specs.Curve.{elevation_on, last_minute, minutes}
 use Rattle.day.specs.Date.{days}
@@ -8,8 +8,6 @@ use Rattle.day.specs.declared.date.Date.{Date}
 use Rattle.sum_rules.specs.Instant.{first_day, minus}
 use Rattle.sky_vectors.specs.declared.geocentric.Body.{Body}
 use Rattle.sky_vectors.specs.declared.station.Point.{Point}
-use Rattle.rise_set.specs.declared.crossing.Crossing.{Crossing}
-use Rattle.rise_set.specs.declared.crossing.Crossing.TheVariants as Crosses
 use Rattle.rise_set.specs.declared.crossing.Event.{Event}
 use Rattle.rise_set.specs.declared.crossing.Event.TheVariants.{Rise, Set}
 
@@ -55,9 +53,9 @@ at_minute m = record { has = 1; minute = m }
 abbrev pub at_none : CrossingNumbers
 at_none = record { has = 0; minute = 0 }
 
-abbrev pub crossing_numbers : Crossing → CrossingNumbers
-crossing_numbers (Crosses.Minute m) = at_minute m
-crossing_numbers Crosses.None = at_none
+abbrev pub crossing_numbers : Option ℕ → CrossingNumbers
+crossing_numbers (Some m) = at_minute m
+crossing_numbers None = at_none
 
 -- the first minute 0 to 1439 at which the test holds, or none
 unfoldable pub first_minute : (ℕ → Bool) → CrossingNumbers
