@@ -26,40 +26,48 @@ fn minor(s1: i64, s2: i64, m1: i64, m2: i64) -> i64
     product(s1, m2) - product(s2, m1)
 }
 
-fn cross(sun: Vector, moon: Vector) -> Vector
-    requires { ShortVector sun × ShortVector moon }
-    ensures { result ≡ cross sun moon }
-{
-    Vector {
-        x: minor(sun.y, sun.z, moon.y, moon.z),
-        y: minor(sun.z, sun.x, moon.z, moon.x),
-        z: minor(sun.x, sun.y, moon.x, moon.y),
-    }
+// A direction that is short enough for the squares of a cross product to fit.
+#[derive(Clone, Copy)]
+pub struct Direction {
+    pub vector: Vector,
+    ghost short: { ShortVector vector },
 }
 
-fn dot(sun: Vector, moon: Vector) -> i64
-    requires { ShortVector sun × ShortVector moon }
-    ensures { result ≡ dot sun moon }
-{
-    product(sun.x, moon.x) + product(sun.y, moon.y) + product(sun.z, moon.z)
+impl Direction {
+    fn cross(self, other: Direction) -> Vector
+        ensures { result ≡ cross self.vector other.vector }
+    {
+        let s = self.vector;
+        let m = other.vector;
+        Vector {
+            x: minor(s.y, s.z, m.y, m.z),
+            y: minor(s.z, s.x, m.z, m.x),
+            z: minor(s.x, s.y, m.x, m.y),
+        }
+    }
+
+    fn dot(self, other: Direction) -> i64
+        ensures { result ≡ dot self.vector other.vector }
+    {
+        let s = self.vector;
+        let m = other.vector;
+        product(s.x, m.x) + product(s.y, m.y) + product(s.z, m.z)
+    }
+
+    // The angle between the two, in 10⁻⁸ degree.
+    pub fn separation(self, other: Direction) -> u64
+        ensures { result ≡ separation self.vector other.vector }
+    {
+        let across = length(self.cross(other));
+        let along = self.dot(other);
+        short_arctangent(across as i64, along)
+    }
 }
 
 fn length(vector: Vector) -> u64
     requires { SmallVector cross_limit vector }
     ensures { result ≡ length vector }
 {
-    let x = vector.x;
-    let y = vector.y;
-    let z = vector.z;
+    let Vector { x, y, z } = vector;
     root((x * x) as u64 + (y * y) as u64 + (z * z) as u64)
-}
-
-// In 10⁻⁸ degree.
-pub fn separation(sun: Vector, moon: Vector) -> u64
-    requires { ShortVector sun × ShortVector moon }
-    ensures { result ≡ separation sun moon }
-{
-    let across = length(cross(sun, moon));
-    let along = dot(sun, moon);
-    short_arctangent(across as i64, along)
 }

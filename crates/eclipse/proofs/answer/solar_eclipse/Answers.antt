@@ -1,72 +1,50 @@
 -- `eclipse::answer::solar_eclipse` meets its contract.
 use mathlib.Core.Path.{◌∙◌, ◌≡◌, ap, subst⁻¹, sym}
-use borrow.Author.Rules.{rules}
 use Rattle.calendar.specs.Refusal.{first, verdict_number}
-use Rattle.calendar.proofs.RefusalLaws.{joined, never_none}
-use Rattle.request.specs.Request.{instant, point_refusals, start_refusals}
+use Rattle.calendar.proofs.RefusalLaws.{handed_up, never_none}
+use Rattle.request.specs.Request.{instant}
 use Rattle.request.proofs.RequestLaws.{on_earth, start_reachable}
-use Rattle.sky.proofs.AnswerLaws.{judged_value, judged_zeros}
+use Rattle.sky.proofs.AnswerLaws.{answered_with, refused_with}
 use Rattle.sky_vectors.specs.SkyRange.{Reachable}
-use Rattle.eclipse.specs.Answer.{eclipse_refusals, no_eclipse, solar_eclipse}
+use Rattle.eclipse.specs.Answer.{eclipse_answer, eclipse_refusals, no_eclipse, solar_eclipse}
 use Rattle.eclipse.specs.Eclipse.{eclipse_at}
-use Rattle.eclipse.proofs.AnswerLaws.{one_eclipse, point_passes, start_passes}
+use Rattle.eclipse.proofs.AnswerLaws.{both, one_eclipse, point_passes, start_passes}
 use Rattle.eclipse.proofs.Demand3.{every_eclipse_near}
 use Rattle.eclipse.proofs.answer.solar_eclipse.Goals as goal
-use Rattle.eclipse.proofs.answer.solar_eclipse.Goals.{After-or_else, In-Passed, Start}
+use Rattle.eclipse.proofs.answer.solar_eclipse.Goals.{After-and, In_ok-and}
 
--- the verdict on a request
-module _ (c : After-or_else) where
-  abbrev s : Start
-  s = (goal.at.After-or_else c).Start
+verdict_is : (c : After-and) → verdict_number c.and.result ≡ first (eclipse_refusals c.args.start c.args.point)
+verdict_is c = ap verdict_number c.and.ensures ∙ both c.start_verdict.result c.point_verdict.result _ _ c.start_verdict.ensures c.point_verdict.ensures
 
-  verdict_is : verdict_number c.or_else.result ≡ first (eclipse_refusals s.args.start s.args.point)
-  verdict_is =
-      joined (start_refusals s.args.start) (point_refusals s.args.point) c.or_else.ensures c.start_verdict-by_start.ensures
-      c.point_verdict-by_point.ensures
+-- a request that no check refuses
+passes : (c : In_ok-and) → first (eclipse_refusals c.args.start c.args.point) ≡ 0
+passes c = sym (verdict_is (goal.at.In_ok-and c).After-and) ∙ ap verdict_number c.in_ok-and.was
 
--- one that no check refuses
-module _ (c : In-Passed) where
-  abbrev a : Start
-  a = s (goal.at.In-Passed c).After-or_else
-
-  passes : first (eclipse_refusals a.args.start a.args.point) ≡ 0
-  passes = sym (verdict_is (goal.at.In-Passed c).After-or_else) ∙ ap verdict_number c.in-Passed.is
-
-pub enum_told-1 : goal.enum_told-1
-enum_told-1 c = search rules
+pub returns-in_err-and : goal.returns-in_err-and
+unfolding solar_eclipse
+returns-in_err-and c =
+    let a = c.args in
+    let is = sym (verdict_is (goal.at.returns-in_err-and c).After-and) ∙ ap verdict_number c.in_err-and.was in record {
+      one_answer =
+          one_eclipse (ap eclipse_answer (handed_up c.from_residual.ensures)
+          ∙ refused_with no_eclipse (eclipse_at a.point (instant a.start)) is (never_none c.in_err-and.field-0.0));
+      eclipse_near = every_eclipse_near a.start a.point;
+    }
 
 pub instant_of-requires : goal.instant_of-requires
-instant_of-requires c = let e = (goal.at.instant_of-requires c).In-Passed in start_passes (a e).args.start (a e).args.point (passes e)
+instant_of-requires c = start_passes c.args.start c.args.point (passes (goal.at.instant_of-requires c).In_ok-and)
 
 pub eclipse_at-requires : goal.eclipse_at-requires
 eclipse_at-requires c =
-    let e = (goal.at.eclipse_at-requires c).In-Passed in
-    let start = (a e).args.start in
-    let point = (a e).args.point in (
-      c.table.ensures,
-      (on_earth point (point_passes start point (passes e)), subst⁻¹ Reachable c.instant_of.ensures (start_reachable start (start_passes start point (passes e)))),
-    )
+    let a = c.args in
+    let e = passes (goal.at.eclipse_at-requires c).In_ok-and in
+    (on_earth a.point (point_passes a.start a.point e), subst⁻¹ Reachable c.instant_of.ensures (start_reachable a.start (start_passes a.start a.point e)))
 
-pub returns-in-Passed : goal.returns-in-Passed
+pub returns : goal.returns
 unfolding solar_eclipse
-returns-in-Passed c =
-    let e = (goal.at.returns-in-Passed c).In-Passed in
-    let start = (a e).args.start in
-    let point = (a e).args.point in
-    let value = c.eclipse_at.ensures ∙ ap (eclipse_at point) c.instant_of.ensures in record {
-      one_answer = one_eclipse ((λ i. record { refusal = 0; value = value i }) ∙ sym (judged_value (first (eclipse_refusals start point)) no_eclipse _ (passes e)));
-      eclipse_near = every_eclipse_near start point;
-    }
-
-pub returns-in-Refused : goal.returns-in-Refused
-unfolding solar_eclipse
-returns-in-Refused c =
-    let e = (goal.at.returns-in-Refused c).After-or_else in
-    let start = (s e).args.start in
-    let point = (s e).args.point in
-    let refusal = c.in-Refused.refusal in
-    let is = sym (verdict_is e) ∙ ap verdict_number c.in-Refused.is in record {
-      one_answer = one_eclipse ((λ i. record { refusal = sym is i; value = no_eclipse })
-          ∙ sym (judged_zeros (first (eclipse_refusals start point)) no_eclipse (eclipse_at point (instant start)) (λ none. never_none refusal (sym is ∙ none))));
-      eclipse_near = every_eclipse_near start point;
+returns c =
+    let a = c.args in
+    let found = c.eclipse_at.ensures ∙ ap (eclipse_at a.point) c.instant_of.ensures in record {
+      one_answer = one_eclipse (answered_with no_eclipse (eclipse_at a.point (instant a.start)) (passes (goal.at.returns c).In_ok-and) found);
+      eclipse_near = every_eclipse_near a.start a.point;
     }

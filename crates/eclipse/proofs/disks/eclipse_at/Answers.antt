@@ -7,7 +7,7 @@ use Rattle.eclipse.proofs.disks.eclipse_at.Goals as goal
 
 pub eclipse_from-requires : goal.eclipse_from-requires
 eclipse_from-requires c =
-    (c.requires.0, (subst⁻¹ Standing c.runner_at.ensures (runner_stands c.args.point c.requires.1.0), c.requires.1.1))
+    (subst⁻¹ Standing c.runner_at.ensures (runner_stands c.args.point c.requires.0), c.requires.1)
 
 pub returns : goal.returns
 unfolding eclipse_at

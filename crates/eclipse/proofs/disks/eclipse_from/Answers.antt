@@ -28,10 +28,10 @@ module _ (s : Start) where
   instant = s.args.instant
 
   abbrev stands : Standing runner
-  stands = s.requires.1.0
+  stands = s.requires.0
 
   abbrev near : Reachable instant
-  near = s.requires.1.1
+  near = s.requires.1
 
   abbrev longitude : Mirror
   longitude = field runner.longitude stands.longitude_size tt
@@ -74,35 +74,50 @@ module _ (c : After-from_surface-to_moon) where
   to_moon_is = towards_is k Bodies.Moon c.geocentric_at-moon.ensures c.from_surface-to_moon.ensures
 
 pub moment_at-moment-requires : goal.moment_at-moment-requires
-moment_at-moment-requires c = let s = (goal.at.moment_at-moment-requires c).Start in (s.requires.0, (asked (longitude s) tt, near s))
+moment_at-moment-requires c = let s = (goal.at.moment_at-moment-requires c).Start in (asked (longitude s) tt, near s)
 
 pub geocentric_at-sun-requires : goal.geocentric_at-sun-requires
 geocentric_at-sun-requires c =
-    ((start (goal.at.geocentric_at-sun-requires c).After-moment_at-moment).requires.0, (moment_reached (at (goal.at.geocentric_at-sun-requires c).After-moment_at-moment) (moment_is (goal.at.geocentric_at-sun-requires c).After-moment_at-moment) (near (start (goal.at.geocentric_at-sun-requires c).After-moment_at-moment)), moment_nutation (at (goal.at.geocentric_at-sun-requires c).After-moment_at-moment) (moment_is (goal.at.geocentric_at-sun-requires c).After-moment_at-moment) (near (start (goal.at.geocentric_at-sun-requires c).After-moment_at-moment))))
+    let m = (goal.at.geocentric_at-sun-requires c).After-moment_at-moment in
+    (moment_reached (at m) (moment_is m) (near (start m)), moment_nutation (at m) (moment_is m) (near (start m)))
 
 pub geocentric_at-moon-requires : goal.geocentric_at-moon-requires
 geocentric_at-moon-requires c =
-    ((start (goal.at.geocentric_at-moon-requires c).After-moment_at-moment).requires.0, (moment_reached (at (goal.at.geocentric_at-moon-requires c).After-moment_at-moment) (moment_is (goal.at.geocentric_at-moon-requires c).After-moment_at-moment) (near (start (goal.at.geocentric_at-moon-requires c).After-moment_at-moment)), moment_nutation (at (goal.at.geocentric_at-moon-requires c).After-moment_at-moment) (moment_is (goal.at.geocentric_at-moon-requires c).After-moment_at-moment) (near (start (goal.at.geocentric_at-moon-requires c).After-moment_at-moment))))
+    let m = (goal.at.geocentric_at-moon-requires c).After-moment_at-moment in
+    (moment_reached (at m) (moment_is m) (near (start m)), moment_nutation (at m) (moment_is m) (near (start m)))
 
 pub from_surface-to_sun-requires : goal.from_surface-to_sun-requires
 from_surface-to_sun-requires c =
     let m = (goal.at.from_surface-to_sun-requires c).After-moment_at-moment in
     let s = start m in
-    (s.requires.0, centre_parallax (at m) (moment_is m) (near s) Bodies.Sun c.geocentric_at-sun.ensures, (stands s).observer_size)
+    (centre_parallax (at m) (moment_is m) (near s) Bodies.Sun c.geocentric_at-sun.ensures, (stands s).observer_size)
 
 pub from_surface-to_moon-requires : goal.from_surface-to_moon-requires
 from_surface-to_moon-requires c =
-    let s = start (goal.at.from_surface-to_moon-requires c).After-moment_at-moment in
-    (s.requires.0, centre_parallax (at (goal.at.from_surface-to_moon-requires c).After-moment_at-moment) (moment_is (goal.at.from_surface-to_moon-requires c).After-moment_at-moment) (near s) Bodies.Moon c.geocentric_at-moon.ensures, (stands s).observer_size)
+    let m = (goal.at.from_surface-to_moon-requires c).After-moment_at-moment in
+    let s = start m in
+    (centre_parallax (at m) (moment_is m) (near s) Bodies.Moon c.geocentric_at-moon.ensures, (stands s).observer_size)
+
+pub invariant_of-eclipse_of : goal.invariant_of-eclipse_of
+invariant_of-eclipse_of c =
+    let b = (goal.at.invariant_of-eclipse_of c).After-from_surface-to_moon in
+    let s = start (k b) in
+    record { short = subst⁻¹ ShortVector (to_sun_is b) (direction_short Bodies.Sun (stands s) (near s)) }
+
+pub invariant_of-eclipse_of-2 : goal.invariant_of-eclipse_of-2
+invariant_of-eclipse_of-2 c =
+    let b = (goal.at.invariant_of-eclipse_of-2 c).After-from_surface-to_moon in
+    let s = start (k b) in
+    record { short = subst⁻¹ ShortVector (to_moon_is b) (direction_short Bodies.Moon (stands s) (near s)) }
 
 pub eclipse_of-requires : goal.eclipse_of-requires
 eclipse_of-requires c =
-    let s = start (k (goal.at.eclipse_of-requires c).After-from_surface-to_moon) in
+    let b = (goal.at.eclipse_of-requires c).After-from_surface-to_moon in
+    let s = start (k b) in
     let n = (instant s).tt in
     let far = (near s).tt_near in record {
-      table_value = (s.requires.0, (subst⁻¹ SunFar (sun_is (goal.at.eclipse_of-requires c).After-from_surface-to_moon) (sun_far n far), subst⁻¹ MoonFar (moon_is (goal.at.eclipse_of-requires c).After-from_surface-to_moon) (moon_far n far)));
-      short_vector = (subst⁻¹ ShortVector (to_sun_is (goal.at.eclipse_of-requires c).After-from_surface-to_moon) (direction_short Bodies.Sun (stands s) (near s)), subst⁻¹ ShortVector (to_moon_is (goal.at.eclipse_of-requires c).After-from_surface-to_moon) (direction_short Bodies.Moon (stands s) (near s)));
-      one_angle = ((stands s).latitude_angle, subst⁻¹ (SmallVector direction_limit) (to_moon_is (goal.at.eclipse_of-requires c).After-from_surface-to_moon) (direction_small Bodies.Moon (stands s) (near s)));
+      far = (subst⁻¹ SunFar (sun_is b) (sun_far n far), subst⁻¹ MoonFar (moon_is b) (moon_far n far));
+      one_angle = ((stands s).latitude_angle, subst⁻¹ (SmallVector direction_limit) (to_moon_is b) (direction_small Bodies.Moon (stands s) (near s)));
     }
 
 pub returns : goal.returns

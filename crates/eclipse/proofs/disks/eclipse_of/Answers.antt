@@ -33,18 +33,18 @@ module _ (c : After-moon_radius-rm) where
   start = (goal.at.After-separation-apart parted).Start
 
   abbrev e : ℤ
-  e = (place_towards start.args.latitude start.args.to_moon).elevation
+  e = (place_towards start.args.latitude start.args.to_moon.vector).elevation
 
   rm_is : c.moon_radius-rm.result ≡ moon_radius start.args.moon e
   rm_is =
       c.moon_radius-rm.ensures
       ∙ ap (moon_radius start.args.moon)
-      (told {r = placed.place_towards-elevation.result.elevation} (ap (λ (p : Place). p.elevation) placed.place_towards-elevation.ensures) (place_towards_in_turns start.args.latitude start.args.to_moon).elevation_size tt).same
+      (told {r = placed.place_towards-elevation.result.elevation} (ap (λ (p : Place). p.elevation) placed.place_towards-elevation.ensures) (place_towards_in_turns start.args.latitude start.args.to_moon.vector).elevation_size tt).same
 
   sizes : Radii sized.sun_radius-rs.result c.moon_radius-rm.result
   sizes =
       subst⁻¹ (λ (n : ℕ). Radii n c.moon_radius-rm.result) sized.sun_radius-rs.ensures
-      (subst⁻¹ (λ (n : ℕ). Radii (sun_radius start.args.sun) n) rm_is (radii e start.requires.table_value.1.0 start.requires.table_value.1.1))
+      (subst⁻¹ (λ (n : ℕ). Radii (sun_radius start.args.sun) n) rm_is (radii e start.requires.far.0 start.requires.far.1))
 
   apart_most : parted.separation-apart.result ≤ half_turn
   apart_most = subst⁻¹ (λ (n : ℕ). n ≤ half_turn) parted.separation-apart.ensures (separation_most _ _)
@@ -54,7 +54,7 @@ module _ (c : After-share-covered) where
   abbrev before : After-moon_radius-rm
   before = (goal.at.After-share-covered c).After-moon_radius-rm
 
-  share_is : c.share-covered.result ≡ share (separation (start before).args.to_sun (start before).args.to_moon) (sun_radius (start before).args.sun) (moon_radius (start before).args.moon (e before))
+  share_is : c.share-covered.result ≡ share (separation (start before).args.to_sun.vector (start before).args.to_moon.vector) (sun_radius (start before).args.sun) (moon_radius (start before).args.moon (e before))
   share_is = c.share-covered.ensures.value ∙ (λ i. share ((parted before).separation-apart.ensures i) ((sized before).sun_radius-rs.ensures i) (rm_is before i))
 
   share_most : c.share-covered.result ≤ whole
@@ -62,8 +62,8 @@ module _ (c : After-share-covered) where
       subst⁻¹ (λ (n : ℕ). n ≤ whole) c.share-covered.ensures.value
       (every_share_holds (parted before).separation-apart.result (sized before).sun_radius-rs.result before.moon_radius-rm.result).at_most_whole
 
-pub share-covered-requires : goal.share-covered-requires
-share-covered-requires c = ((start (goal.at.share-covered-requires c).After-moon_radius-rm).requires.table_value.0, sizes (goal.at.share-covered-requires c).After-moon_radius-rm)
+pub invariant_of-disks : goal.invariant_of-disks
+invariant_of-disks c = record { radii = sizes (goal.at.invariant_of-disks c).After-moon_radius-rm }
 
 pub overflow_cast-result : goal.overflow_cast-result
 overflow_cast-result c = nat_fits (apart_most (before (goal.at.overflow_cast-result c).After-share-covered)) tt

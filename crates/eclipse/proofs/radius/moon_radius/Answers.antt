@@ -13,24 +13,24 @@ use Rattle.sky_vectors.specs.Product.{◌·◌}
 use Rattle.eclipse.specs.Radius.{moon_radius}
 use Rattle.eclipse.proofs.RadiusLaws.{nearly_one}
 use Rattle.eclipse.proofs.radius.moon_radius.Goals as goal
-use Rattle.eclipse.proofs.radius.moon_radius.Goals.{After-floor_div-nearer, After-sine_in-height, Start}
+use Rattle.eclipse.proofs.radius.moon_radius.Goals.{After-floor_div-nearer, After-sine-height, Start}
 
 abbrev distance : Start → Mirror
-distance s = field s.args.moon.distance s.requires.1.distant.most tt
+distance s = field s.args.moon.distance s.requires.distant.most tt
 
-module _ (c : After-sine_in-height) where
+module _ (c : After-sine-height) where
   abbrev start : Start
-  start = (goal.at.After-sine_in-height c).Start
+  start = (goal.at.After-sine-height c).Start
 
   abbrev height : Mirror
-  height = gave {v = sine start.args.elevation} c.sine_in-height.type_inv (c.sine_in-height.ensures ∙ ap sine (any start.ranges.elevation).same) (sine_most start.args.elevation)
+  height = gave {v = sine start.args.elevation} c.sine-height.type_inv (c.sine-height.ensures ∙ ap sine (any start.ranges.elevation).same) (sine_most start.args.elevation)
 
   abbrev product : Mirror
-  product = field start.args.moon.parallax start.requires.1.parallax_size tt ⊗ height
+  product = field start.args.moon.parallax start.requires.parallax_size tt ⊗ height
 
 module _ (c : After-floor_div-nearer) where
   abbrev lift : Mirror
-  lift = floor_gave (kept (product (goal.at.After-floor_div-nearer c).After-sine_in-height) tt) 1_000_000_000 c.floor_div-nearer.type_inv c.floor_div-nearer.ensures
+  lift = floor_gave (kept (product (goal.at.After-floor_div-nearer c).After-sine-height) tt) 1_000_000_000 c.floor_div-nearer.type_inv c.floor_div-nearer.ensures
 
   abbrev nearer : Mirror
   nearer = kept (lit (pos 1_000_000_000) ⊕ lift) tt
@@ -45,7 +45,7 @@ module _ (c : After-floor_div-nearer) where
       small h = omega arith
 
 pub overflow_mul-parallax : goal.overflow_mul-parallax
-overflow_mul-parallax c = fits (product (goal.at.overflow_mul-parallax c).After-sine_in-height) tt
+overflow_mul-parallax c = fits (product (goal.at.overflow_mul-parallax c).After-sine-height) tt
 
 pub overflow_add-nearer : goal.overflow_add-nearer
 overflow_add-nearer c = fits (lit (pos 1_000_000_000) ⊕ lift (goal.at.overflow_add-nearer c).After-floor_div-nearer) tt
@@ -58,20 +58,20 @@ overflow_mul-result c = record { fits = omega (arith, nearer_most (goal.at.overf
 
 pub overflow_cast-result-2 : goal.overflow_cast-result-2
 overflow_cast-result-2 c =
-    let s = start (goal.at.overflow_cast-result-2 c).After-sine_in-height in
-    cast_up (abs_fits s.args.moon.distance s.requires.1.distant.most tt) s.requires.1.distant.least
+    let s = start (goal.at.overflow_cast-result-2 c).After-sine-height in
+    cast_up (abs_fits s.args.moon.distance s.requires.distant.most tt) s.requires.distant.least
 
 pub overflow_mul-result-2 : goal.overflow_mul-result-2
 overflow_mul-result-2 c = record { fits = omega (arith, far) }
   where
-    far : nat_abs (distance (start (goal.at.overflow_mul-result-2 c).After-sine_in-height)).machine ≤ 1_000_000_000
-    far = asked (distance (start (goal.at.overflow_mul-result-2 c).After-sine_in-height)) tt
+    far : nat_abs (distance (start (goal.at.overflow_mul-result-2 c).After-sine-height)).machine ≤ 1_000_000_000
+    far = asked (distance (start (goal.at.overflow_mul-result-2 c).After-sine-height)) tt
 
 pub nonzero_div-result : goal.nonzero_div-result
 nonzero_div-result c =
-    let s = start (goal.at.nonzero_div-result c).After-sine_in-height in
-    subst⁻¹ (λ (z : ℤ). 0 < 36 * nat_abs z) (distance s).same (omega (arith, at_least s.requires.1.distant.least))
+    let s = start (goal.at.nonzero_div-result c).After-sine-height in
+    subst⁻¹ (λ (z : ℤ). 0 < 36 * nat_abs z) (distance s).same (omega (arith, at_least s.requires.distant.least))
 
 pub returns : goal.returns
 unfolding moon_radius ◌·◌
-returns c = ap₂ (λ (z w : ℤ). 358_473_400 * nat_abs z / (36 * nat_abs w)) (nearer (goal.at.returns c).After-floor_div-nearer).same (distance (start (goal.at.returns c).After-sine_in-height)).same
+returns c = ap₂ (λ (z w : ℤ). 358_473_400 * nat_abs z / (36 * nat_abs w)) (nearer (goal.at.returns c).After-floor_div-nearer).same (distance (start (goal.at.returns c).After-sine-height)).same

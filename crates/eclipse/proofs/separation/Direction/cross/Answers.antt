@@ -1,30 +1,30 @@
--- `eclipse::separation::cross` meets its contract.
+-- `eclipse::separation::Direction::cross` meets its contract.
 use mathlib.Core.Path.{◌∙◌}
 use Rattle.numbers.proofs.Machine.{Mirror, asked, passed}
 use Rattle.sky_vectors.proofs.SkyMirror.{x_in, y_in, z_in}
 use Rattle.eclipse.specs.Separation.{cross, minor}
 use Rattle.eclipse.proofs.CrossLaws.{short_small}
-use Rattle.eclipse.proofs.separation.cross.Goals as goal
-use Rattle.eclipse.proofs.separation.cross.Goals.{After-minor, After-minor-2, Start}
+use Rattle.eclipse.proofs.separation.Direction.cross.Goals as goal
+use Rattle.eclipse.proofs.separation.Direction.cross.Goals.{After-minor, After-minor-2, Start}
 
 module _ (s : Start) where
   abbrev sx : Mirror
-  sx = x_in (short_small s.requires.0) tt
+  sx = x_in (short_small s.args.self.short) tt
 
   abbrev sy : Mirror
-  sy = y_in (short_small s.requires.0) tt
+  sy = y_in (short_small s.args.self.short) tt
 
   abbrev sz : Mirror
-  sz = z_in (short_small s.requires.0) tt
+  sz = z_in (short_small s.args.self.short) tt
 
   abbrev mx : Mirror
-  mx = x_in (short_small s.requires.1) tt
+  mx = x_in (short_small s.args.other.short) tt
 
   abbrev my : Mirror
-  my = y_in (short_small s.requires.1) tt
+  my = y_in (short_small s.args.other.short) tt
 
   abbrev mz : Mirror
-  mz = z_in (short_small s.requires.1) tt
+  mz = z_in (short_small s.args.other.short) tt
 
 -- four numbers are read for each coordinate
 abbrev first : Start → Start

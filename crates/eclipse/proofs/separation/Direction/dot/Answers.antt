@@ -1,19 +1,19 @@
--- `eclipse::separation::dot` meets its contract.
+-- `eclipse::separation::Direction::dot` meets its contract.
 use Rattle.numbers.proofs.Machine.{Mirror, ◌⊕◌, asked, fits, kept}
 use Rattle.sky_vectors.specs.SkyRange.{SmallVector}
 use Rattle.sky_vectors.proofs.SkyMirror.{x_in, y_in, z_in}
 use Rattle.eclipse.specs.EclipseRange.{coordinate_limit}
 use Rattle.eclipse.specs.Separation.{dot}
 use Rattle.eclipse.proofs.CrossLaws.{product_gave, short_small}
-use Rattle.eclipse.proofs.separation.dot.Goals as goal
-use Rattle.eclipse.proofs.separation.dot.Goals.{After-product, After-product-2, After-product-3, Start}
+use Rattle.eclipse.proofs.separation.Direction.dot.Goals as goal
+use Rattle.eclipse.proofs.separation.Direction.dot.Goals.{After-product, After-product-2, After-product-3, Start}
 
 module _ (s : Start) where
-  abbrev sun : SmallVector coordinate_limit s.args.sun
-  sun = short_small s.requires.0
+  abbrev sun : SmallVector coordinate_limit s.args.self.vector
+  sun = short_small s.args.self.short
 
-  abbrev moon : SmallVector coordinate_limit s.args.moon
-  moon = short_small s.requires.1
+  abbrev moon : SmallVector coordinate_limit s.args.other.vector
+  moon = short_small s.args.other.short
 
 abbrev first : After-product → Start
 first a = (goal.at.After-product a).Start
