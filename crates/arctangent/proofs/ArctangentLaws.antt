@@ -137,6 +137,10 @@ pub first_room : (b : ℕ) {m : ℕ} → grown b 30 ≤ m → b ≤ m
 unfolding grown
 first_room b h = le_trans (grown_mono b 0 30 (lit≤ tt)) h
 
+-- and for a sum of two coordinates
+pub sum_room : (a b c : ℤ) {m : ℕ} → nat_abs a ≤ m → nat_abs b ≤ m → nat_abs c ≤ 1 → nat_abs (a +ℤ c *ℤ b) ≤ 2 * m
+sum_room a b c h k l = omega (arith, add_bound a (c *ℤ b) h (mul_bound c b l k))
+
 -- the first pair: both numbers times 1024
 pub start_sized : (y x : ℤ) {m : ℕ} → nat_abs y ≤ m → nat_abs x ≤ m → Sized (m * 1024) (2 ^ 50) (start y x)
 unfolding start

@@ -64,17 +64,17 @@ pub trait Coordinate: Copy {
 
     // 1, 0 or -1.
     fn sign(self) -> i64
-        requires { IsProper self × (nat_abs (number self) ≤ room) }
+        requires { IsProper self }
         ensures { result ≡ sign (number self) };
 
     // Its floor by 2ᵏ.
     fn floored(self, k: usize) -> Self
-        requires { IsProper self × (nat_abs (number self) ≤ room) × (k < 30) }
-        ensures { (number result ≡ ⌊ number self ÷ 2 ^ k ⌋) × (IsProper result × (nat_abs (number result) ≤ room)) };
+        requires { IsProper self × (k < 30) }
+        ensures { (number result ≡ ⌊ number self ÷ 2 ^ k ⌋) × (IsProper result × (nat_abs (number result) ≤ nat_abs (number self))) };
 
     // Its sum with c times another, for c of -1, 0 or 1.
     fn plus_times(self, c: i64, other: Self) -> Self
-        requires { (IsProper self × (nat_abs (number self) ≤ room)) × (IsProper other × (nat_abs (number other) ≤ room)) × (nat_abs c ≤ 1) }
+        requires { IsProper self × IsProper other × (nat_abs c ≤ 1) × (nat_abs (number self +ℤ c *ℤ number other) ≤ 2 * room) }
         ensures { (number result ≡ number self +ℤ c *ℤ number other) × IsProper result };
 
     // No step passes the room.
@@ -84,7 +84,7 @@ pub trait Coordinate: Copy {
 impl Coordinate for i64 {
     ghost number = { λ z. z };
 
-    ghost IsProper = { λ z. Unit {0} };
+    ghost IsProper = { λ z. nat_abs z ≤ 2 ^ 61 };
 
     ghost largest = { 2 ^ 40 };
 
@@ -118,6 +118,7 @@ pub struct Turning<T> {
 }
 
 // One step, from the old pair: by the sign of y, with no branch.
+#[tactic(auto, using(crate::proofs::ArctangentLaws::sum_room))]
 fn stepped<T: Coordinate>(s: Turning<T>, k: usize, turn: i64) -> Turning<T>
     requires { (k < 30) × (turn ≡ pos (turn_by k)) × Both T.IsProper s × Sized T.room (2 ^ 60) (turning T.number s) }
     ensures { (turning T.number result ≡ step k (turning T.number s)) × Both T.IsProper result }

@@ -11,7 +11,7 @@ use Rattle.arithmetic.proofs.Sizes.{mul_bound}
 use Rattle.arithmetic.proofs.Solver.{◌:*◌, ◌:+◌, con, k0, neg', x0}
 use Rattle.number_rules.specs.Angle.{half_turn}
 use Rattle.arctangent.specs.Turning.{grown}
-use Rattle.arctangent.proofs.ArctangentLaws.{first_room, start_left, start_right}
+use Rattle.arctangent.proofs.ArctangentLaws.{first_room, start_left, start_right, sum_room}
 use Rattle.numbers.proofs.Machine.{Mirror, arg, less, lit, not_less}
 use Rattle.arctangent.proofs.turning.started.Goals as goal
 
@@ -29,18 +29,16 @@ negated {v} z none e f =
     f ∙ (λ i. none i +ℤ negsuc 0 *ℤ scaled_is z e i)
     ∙ solveℤ (k0 :+ con (negsuc 0) :* (x0 :* con (pos 1024))) (neg' (x0 :* con (pos 1024))) (z.number ∷ []) tt
 
-zero_room : {v : ℤ} {m : ℕ} → v ≡ pos 0 → nat_abs v ≤ m
-zero_room {m} e = subst⁻¹ (λ (w : ℤ). nat_abs w ≤ m) e (omega arith)
+negated_room : {v zero : ℤ} (z : Mirror) {m : ℕ} → zero ≡ pos 0 → v ≡ z.machine *ℤ pos 1024 → grown (z.most * 1024) 30 ≤ m → nat_abs (zero +ℤ negsuc 0 *ℤ v) ≤ 2 * m
+negated_room {v} {zero} z {m} none e h = sum_room zero v (negsuc 0) (subst⁻¹ (λ (w : ℤ). nat_abs w ≤ m) none (omega arith)) (scaled_room z e h) (lit≤ tt)
 
 pub plus_times-requires : goal.plus_times-requires
 plus_times-requires g c =
-    let enough = g.met.T.Coordinate.enough in
-    ((c.scaled-zero.ensures.1, zero_room c.scaled-zero.ensures.0), (c.scaled-xs.ensures.1, scaled_room (arg c.ranges.x c.requires.1) c.scaled-xs.ensures.0 enough), lit≤ tt)
+    (c.scaled-zero.ensures.1, c.scaled-xs.ensures.1, lit≤ tt, negated_room (arg c.ranges.x c.requires.1) c.scaled-zero.ensures.0 c.scaled-xs.ensures.0 g.met.T.Coordinate.enough)
 
 pub plus_times-requires-then-x-lt0 : goal.plus_times-requires-then-x-lt0
 plus_times-requires-then-x-lt0 g c =
-    let enough = g.met.T.Coordinate.enough in
-    ((c.scaled-zero.ensures.1, zero_room c.scaled-zero.ensures.0), (c.scaled-ys.ensures.1, scaled_room (arg c.ranges.y c.requires.0) c.scaled-ys.ensures.0 enough), lit≤ tt)
+    (c.scaled-zero.ensures.1, c.scaled-ys.ensures.1, lit≤ tt, negated_room (arg c.ranges.y c.requires.0) c.scaled-zero.ensures.0 c.scaled-ys.ensures.0 g.met.T.Coordinate.enough)
 
 pub returns-then-x-lt0 : goal.returns-then-x-lt0
 returns-then-x-lt0 g c =

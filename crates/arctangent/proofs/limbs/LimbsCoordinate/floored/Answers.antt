@@ -1,7 +1,6 @@
 -- `arctangent::limbs::LimbsCoordinate::floored` meets its contract.
 use mathlib.Core.Path.{◌∙◌, ◌≡◌, ap, subst⁻¹}
 use Prim.Native.Nat.{◌%◌, ◌*◌, ◌<◌, ◌^◌, ◌≤◌, ℕ}
-use native.Mathlib.Nat.{le_trans}
 use native.Mathlib.Omega.{arith}
 use lib.IntN.{nat_abs, ℤ}
 use lib.Pow.{pow_mono, pow_pos}
@@ -16,11 +15,11 @@ power {k} h = omega (arith, pow_mono {i = k} {j = 30} (omega arith))
 
 pub divided-requires : goal.divided-requires
 divided-requires c =
-    let h : c.args.k < 30 = c.requires.2 in
+    let h : c.args.k < 30 = c.requires.1 in
     (c.requires.0, subst⁻¹ (λ (p : ℕ). (0 < p) × (p ≤ 2 ^ 30)) (power h) (pow_pos c.args.k, pow_mono {i = c.args.k} {j = 30} (omega arith)))
 
 pub returns : goal.returns
 returns c =
     let a = value c.args.self in
-    let e : value c.divided.result ≡ ⌊ a ÷ 2 ^ c.args.k ⌋ = c.divided.ensures.0 ∙ ap (λ (p : ℕ). ⌊ a ÷ p ⌋) (power c.requires.2) in
-    (e, (c.divided.ensures.1, subst⁻¹ (λ (v : ℤ). nat_abs v ≤ 2 ^ 82) e (le_trans (floor_small a (2 ^ c.args.k)) c.requires.1)))
+    let e : value c.divided.result ≡ ⌊ a ÷ 2 ^ c.args.k ⌋ = c.divided.ensures.0 ∙ ap (λ (p : ℕ). ⌊ a ÷ p ⌋) (power c.requires.1) in
+    (e, (c.divided.ensures.1, subst⁻¹ (λ (v : ℤ). nat_abs v ≤ nat_abs a) e (floor_small a (2 ^ c.args.k))))

@@ -4,7 +4,6 @@ use Prim.Native.Nat.{◌^◌, ◌≤◌}
 use lib.Dec.{lit<}
 use lib.IntN.{◌*ℤ◌, ◌+ℤ◌, nat_abs, pos, ℤ}
 use Rattle.arithmetic.specs.Floor.{◌modulo◌}
-use Rattle.arithmetic.proofs.Sizes.{add_bound, mul_bound}
 use Rattle.arithmetic.proofs.FloorLaws.{left_over, left_small, modulo_below}
 use Rattle.arctangent.specs.Limbs.{Proper, limb, value}
 use Rattle.arctangent.specs.declared.limbs.Limbs.{Limbs}
@@ -21,10 +20,10 @@ module _ (s : Start) where
   b = s.args.other
 
   abbrev a_proper : Proper a
-  a_proper = s.requires.0.0
+  a_proper = s.requires.0
 
   abbrev b_proper : Proper b
-  b_proper = s.requires.1.0
+  b_proper = s.requires.1
 
   abbrev c : Mirror
   c = arg s.ranges.c s.requires.2
@@ -62,12 +61,9 @@ module _ (s : Start) where
   digit_is : low.number ≡ pos (sum.number modulo limb)
   digit_is = left_over sum.number (lit< tt)
 
-  sum_most : nat_abs (value a +ℤ s.args.c *ℤ value b) ≤ 2 ^ 83
-  sum_most = add_bound (value a) (s.args.c *ℤ value b) s.requires.0.1 (mul_bound s.args.c (value b) s.requires.2 s.requires.1.1)
-
   high_room : nat_abs high.number ≤ 2 ^ 60
   high_room =
-      room_of high.number low.number (subst⁻¹ (λ (z : ℤ). nat_abs z ≤ 2 ^ 83) value_is sum_most) (left_small sum.number {d = limb} (lit< tt))
+      room_of high.number low.number (subst⁻¹ (λ (z : ℤ). nat_abs z ≤ 2 ^ 83) value_is s.requires.3) (left_small sum.number {d = limb} (lit< tt))
 
 abbrev s₁ : After-struct_told-1 → Start
 s₁ c = (goal.at.After-struct_told-1 c).Start
