@@ -26,15 +26,7 @@ fn is_date(header: Header) -> bool
 fn is_point(header: Header) -> bool
     ensures { result ≡ is_point header }
 {
-    let longitude = header.longitude;
-    let latitude = header.latitude;
-    let height = 0;
-    point_verdict(Point {
-        longitude,
-        latitude,
-        height,
-    })
-    .is_ok()
+    point_verdict(Point::from([header.longitude, header.latitude, 0])).is_ok()
 }
 
 // 1, 2, 5 or 10 minutes.

@@ -7,16 +7,15 @@ use native.Mathlib.Omega.{arith}
 use lib.Dec.{eqb, leb}
 use lib.ListN.{length}
 use borrow.Author.Tests.{eqb-true, le-leb, leb-true}
+use Rattle.std.specs.Prelude.{Err, Ok, Result}
 use Rattle.calendar.specs.Refusal.{OneAnswer, first, number}
 use Rattle.calendar.specs.declared.refusal.Refusal.{Refusal}
-use Rattle.sky.proofs.AnswerLaws.{from_answer, judged_refusal, judged_value, not_refused, one_from, refused_back}
+use Rattle.sky.proofs.AnswerLaws.{judged_refusal, judged_value, not_refused, one_answered}
 use Rattle.sky.specs.Answer.{Answer}
 use Rattle.strip.specs.Format.{Strip, fields, header_follows, header_in, header_size, length_size, strip_in}
 use Rattle.strip.specs.declared.header.Header.{Header}
 use Rattle.text.proofs.LineLaws.{first_of, second_of}
 use Rattle.strip_reader.specs.Reading.{decode, length_agrees, no_header, no_strip, read, read_answer, read_refusals, stated}
-use Rattle.strip_reader.specs.declared.reader.Reading.{Reading}
-use Rattle.strip_reader.specs.declared.reader.Reading.TheVariants.{Read, Refused}
 
 -- of octets that hold a header the length is judged by one test
 pub length_test : (octets : List ℕ) → header_size ≤ length octets → eqb (stated octets) (length octets - length_size) ≡ length_agrees octets
@@ -68,11 +67,11 @@ too_few octets h = by_test (length_agrees octets) refl
 
 -- what an answer of the reader tells
 module _ (octets : List ℕ) where
-  pub read_passed : {header : Header} → read_answer (Read header) ≡ read octets → (first (read_refusals octets) ≡ 0) × (header ≡ header_in (fields octets))
+  pub read_passed : {header : Header} → read_answer (Ok header) ≡ read octets → (first (read_refusals octets) ≡ 0) × (header ≡ header_in (fields octets))
   unfolding read
   read_passed e = not_refused (first (read_refusals octets)) no_header (header_in (fields octets)) e
 
-  pub read_refused : (refusal : Refusal) → read_answer (Refused refusal) ≡ read octets → first (read_refusals octets) ≡ number refusal
+  pub read_refused : (refusal : Refusal) → read_answer (Err refusal) ≡ read octets → first (read_refusals octets) ≡ number refusal
   unfolding read
   read_refused refusal e = sym (ap (λ (a : Answer Header). a.refusal) e ∙ judged_refusal (first (read_refusals octets)) no_header (header_in (fields octets)))
 
@@ -87,9 +86,5 @@ module _ (octets : List ℕ) where
   decoded_value e = ap (λ (a : Answer Strip). a.value) (judged_value (first (read_refusals octets)) no_strip (strip_in octets) (sym decoded_refusal ∙ e))
 
 -- ---- one answer
-read_back : (x : Reading) → from_answer Read Refused (read_answer x) ≡ x
-read_back (Read header) = refl
-read_back (Refused r) = refused_back Read Refused no_header r
-
-pub one_reading : {found : Reading} {rule : Answer Header} → read_answer found ≡ rule → OneAnswer read_answer rule found
-one_reading = one_from Read Refused read_back
+pub one_reading : {found : Result Header Refusal} {rule : Answer Header} → read_answer found ≡ rule → OneAnswer read_answer rule found
+one_reading = one_answered (λ x y same. same)

@@ -1,17 +1,14 @@
 -- THE CLAIMS on old strips (02, Item 9: "Strips that hold air byte 1 are still read").
-use Rattle.std.specs.Prelude.{List, ◌++◌, ◌∷◌, ◌≡◌, ℕ, pos}
+use Rattle.std.specs.Prelude.{List, ◌++◌, ◌∷◌, ◌≡◌, ℕ, Some, pos}
 use Rattle.calendar.specs.Refusal.{first}
-use Rattle.refraction.specs.Double.{double}
-use Rattle.refraction.specs.declared.air.Air.TheVariants.{Measured}
 use Rattle.request.specs.Request.{instant, point_refusals, start_refusals}
 use Rattle.request.specs.declared.start.Start.{Start}
 use Rattle.sky.specs.Answer.{Answer, judged, shown_place}
-use Rattle.sky.specs.Shown.{nothing_shown, shown}
-use Rattle.sky.specs.declared.shown.Shown.{Shown}
+use Rattle.sky.specs.Shown.{ShownNumbers, nothing_shown, shown}
 use Rattle.sky_vectors.specs.Place.{place_at}
 use Rattle.sky_vectors.specs.declared.geocentric.Body.{Body}
 use Rattle.sky_vectors.specs.declared.station.Point.{Point}
-use Rattle.strip.specs.Air.{carried_over, request_air}
+use Rattle.strip.specs.Air.{carried_over, measured_at, request_air}
 use Rattle.strip.specs.Format.{Strip, air_byte, strip_of}
 use Rattle.strip.specs.declared.air.StripAir.{StripAir}
 use Rattle.strip.specs.declared.air.StripAir.TheVariants.{CarriedOver}
@@ -44,13 +41,13 @@ StillRead =
 
 -- the reader answers measured air at 1010 mbar and 10 °C with a mark that it was carried over
 abbrev pub ReadWithMark : Type 0
-ReadWithMark = (octets : List ℕ) → (read octets).refusal ≡ 0 → air_byte octets ≡ 1 → (read octets).value.air ≡ CarriedOver (double (pos 1010)) (double (pos 10))
+ReadWithMark = (octets : List ℕ) → (read octets).refusal ≡ 0 → air_byte octets ≡ 1 → (read octets).value.air ≡ CarriedOver (measured_at (pos 1010) (pos 10))
 
 -- the shown place in standard air as it was (01: "standard means measured at 1010 and 10"), which no check of the air refused
-abbrev pub standard_shown_place : Start → Body → Point → Answer Shown
+abbrev pub standard_shown_place : Start → Body → Point → Answer ShownNumbers
 standard_shown_place start body point =
     judged (first (start_refusals start ++ point_refusals point)) nothing_shown
-    (shown (Measured (double (pos 1010)) (double (pos 10))) (place_at body point (instant start)))
+    (shown (Some (measured_at (pos 1010) (pos 10))) (place_at body point (instant start)))
 
 -- the shown place must have the same bits as before
 abbrev pub ShownAsBefore : Type 0

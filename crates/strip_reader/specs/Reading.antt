@@ -1,16 +1,15 @@
 -- What the reader answers (02, Item 6: "Refusals of the reader, in order"): a strip, or the first refusal.
-use Rattle.std.specs.Prelude.{Bool, ◌&&◌, cond, List, [], ◌++◌, ◌∷◌, ◌*◌, ◌+◌, ◌-◌, ◌/◌, ℕ, eqb, leb, ltb, pos, ℤ, get_or, length}
-use Rattle.calendar.specs.Refusal.{◌unless◌, first, number}
-use Rattle.sky.specs.Answer.{Answer, judged}
+use Rattle.std.specs.Prelude.{Err, None, Ok, Option, Result, Some, Bool, ◌&&◌, cond, List, [], ◌++◌, ◌∷◌, ◌*◌, ◌+◌, ◌-◌, ◌/◌, ℕ, eqb, leb, ltb, pos, ℤ, get_or, length}
+use Rattle.calendar.specs.Refusal.{◌unless◌, first}
+use Rattle.calendar.specs.declared.refusal.Refusal.{Refusal}
+use Rattle.sky.specs.Answer.{Answer, answered, judged}
 use Rattle.sky_vectors.specs.declared.geocentric.Body.TheVariants.{Sun}
 use Rattle.strip.specs.Checks.{absent, are_azimuths, full_turn, header_refusals, steps}
 use Rattle.strip.specs.Format.{Strip, azimuth_part, azimuth_size, azimuths_in, fields, header_follows, header_in, length_size, strip_in, strip_of, version}
-use Rattle.strip.specs.declared.air.StripAir.TheVariants.{None}
+use Rattle.strip.specs.declared.air.StripAir.TheVariants as Airs
 use Rattle.strip.specs.declared.header.Header.{Header}
-use Rattle.strip_reader.specs.declared.reader.Reading.{Reading}
-use Rattle.strip_reader.specs.declared.reader.Reading.TheVariants.{Read, Refused}
-use Rattle.strip_reader.specs.declared.reader.StripAzimuth.{StripAzimuth}
-use Rattle.strip_reader.specs.declared.reader.StripAzimuth.TheVariants as Azimuths
+use Rattle.strip_reader.specs.declared.reader.StepRefusal.{StepRefusal}
+use Rattle.strip_reader.specs.declared.reader.StepRefusal.TheVariants.{NoAzimuth, NoStep}
 
 -- the length that a strip states, of all that follows
 abbrev pub stated : List ℕ → ℕ
@@ -45,7 +44,7 @@ read_refusals octets =
 
 -- a refused answer carries zeros
 abbrev pub no_header : Header
-no_header = record { air = None; body = Sun; year = pos 0; month = pos 0; day = pos 0; longitude = pos 0; latitude = pos 0; step = pos 0 }
+no_header = record { air = Airs.None; body = Sun; year = pos 0; month = pos 0; day = pos 0; longitude = pos 0; latitude = pos 0; step = pos 0 }
 
 abbrev pub no_strip : Strip
 no_strip = strip_of no_header []
@@ -58,14 +57,13 @@ decode octets = judged (first (read_refusals octets)) no_strip (strip_in octets)
 unfoldable pub read : List ℕ → Answer Header
 read octets = judged (first (read_refusals octets)) no_header (header_in (fields octets))
 
-abbrev pub read_answer : Reading → Answer Header
-read_answer (Read header) = record { refusal = 0; value = header }
-read_answer (Refused refusal) = record { refusal = number refusal; value = no_header }
+abbrev pub read_answer : Result Header Refusal → Answer Header
+read_answer = answered (λ header. header) no_header
 
 -- ---- the azimuth of a step by its index, in any azimuth octets
 
-abbrev pub azimuth_of : ℕ → StripAzimuth
-azimuth_of n = cond (ltb n full_turn) (Azimuths.Towards n) (cond (eqb n absent) Azimuths.Absent Azimuths.NoAzimuth)
+abbrev pub azimuth_of : ℕ → Result (Option ℕ) StepRefusal
+azimuth_of n = cond (ltb n full_turn) (Ok (Some n)) (cond (eqb n absent) (Ok None) (Err NoAzimuth))
 
-unfoldable pub azimuth_at : List ℕ → ℕ → StripAzimuth
-azimuth_at part step = cond (ltb step (length part / azimuth_size)) (azimuth_of (get_or (azimuths_in part) step 0)) Azimuths.NoStep
+unfoldable pub azimuth_at : List ℕ → ℕ → Result (Option ℕ) StepRefusal
+azimuth_at part step = cond (ltb step (length part / azimuth_size)) (azimuth_of (get_or (azimuths_in part) step 0)) (Err NoStep)

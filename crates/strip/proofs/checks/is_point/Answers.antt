@@ -16,6 +16,7 @@ use Rattle.numbers.proofs.Machine.{any}
 use Rattle.numbers.specs.Whole.{between}
 use Rattle.request.specs.Request.{point_refusals}
 use Rattle.sky_vectors.specs.SkyRange.{latitude_limit, longitude_limit}
+use Rattle.sky_vectors.specs.declared.station.Point.{Point}
 use Rattle.sum_rules.specs.Instant.{minus}
 use Rattle.strip.specs.Checks.{is_point}
 use Rattle.strip.proofs.checks.is_point.Goals as goal
@@ -45,5 +46,6 @@ returns c =
     let latitude : SFits w64 c.args.header.latitude = search rules in
     c.is_ok.ensures.value ∙ passed c.point_verdict.result
     ∙ ap (λ n. eqb n 0) c.point_verdict.ensures
+    ∙ ap (λ (p : Point). eqb (first (point_refusals p)) 0) c.from.ensures
     ∙ judged _ _
     ∙ (λ i. between (minus longitude_limit) ((any longitude).same i) (pos longitude_limit) && between (minus latitude_limit) ((any latitude).same i) (pos latitude_limit))

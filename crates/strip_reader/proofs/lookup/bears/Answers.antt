@@ -1,44 +1,27 @@
 -- `lookup::bears` meets its contract.
-use mathlib.Core.Path.{◌∙◌, sym}
+use mathlib.Core.Bool.{◌&&◌}
+use mathlib.Core.Path.{◌∙◌, ◌≡◌, ap, ap₂}
 use borrow.Author.Rules.{rules}
-use borrow.Author.Tests.{eq-eqb, ne_eqb}
+use lib.IntN.{ℤ}
 use mir.Syntax.{w64}
-use mir.Val.{SFits}
-use Rattle.strip.proofs.CheckLaws.{tested_same}
+use mir.Val.{SFits, of_z, to_z}
+use mir.ValLaws.{to_z-of_z}
+use Rattle.std.specs.Ordering.{int_eq}
+use Rattle.strip.proofs.CheckLaws.{int_same}
+use Rattle.strip.specs.Checks.{same}
 use Rattle.strip_reader.specs.Lookup.{bears}
 use Rattle.strip_reader.proofs.lookup.bears.Goals as goal
-use Rattle.strip_reader.proofs.lookup.bears.Goals.{Start}
 
-module _ (s : Start) where
-  year_fits : SFits w64 s.args.header.year
-  year_fits = search rules
-
-  month_fits : SFits w64 s.args.header.month
-  month_fits = search rules
-
-  day_fits : SFits w64 s.args.header.day
-  day_fits = search rules
-
-pub returns-then-header-year : goal.returns-then-header-year
-unfolding bears
-returns-then-header-year c =
-    let s = (goal.at.returns-then-header-year c).Start in
-    simp (sym (tested_same s.args.header.year s.args.year (year_fits s) s.ranges.year) ∙ ne_eqb _ _ c.if-header-year.true)
-
-pub returns-then-header-month : goal.returns-then-header-month
-unfolding bears
-returns-then-header-month c =
-    let s = (goal.at.returns-then-header-month c).Start in
-    simp (
-      sym (tested_same s.args.header.year s.args.year (year_fits s) s.ranges.year) ∙ eq-eqb _ _ c.if-header-year.false,
-      sym (tested_same s.args.header.month s.args.month (month_fits s) s.ranges.month) ∙ ne_eqb _ _ c.if-header-month.true,
-    )
+-- a test of two numbers, one of which is as the machine holds it
+told : (a b : ℤ) → SFits w64 a → int_eq (to_z w64 (of_z w64 a)) b ≡ same a b
+told a b f = ap (λ (z : ℤ). int_eq z b) (to_z-of_z w64 a f) ∙ int_same a b
 
 pub returns : goal.returns
 unfolding bears
 returns c =
-    let s = (goal.at.returns c).Start in
-    simp (
-      sym (tested_same s.args.header.year s.args.year (year_fits s) s.ranges.year) ∙ eq-eqb _ _ c.if-header-year.false,
-      sym (tested_same s.args.header.month s.args.month (month_fits s) s.ranges.month) ∙ eq-eqb _ _ c.if-header-month.false,
-    ) (tested_same s.args.header.day s.args.day (day_fits s) s.ranges.day)
+    let header = c.args.header in
+    let date = c.args.date in
+    let year = told header.year date.year (search rules) in
+    let month = told header.month date.month (search rules) in
+    let day = told header.day date.day (search rules) in
+    c.eq.ensures ∙ ap₂ ◌&&◌ year (ap₂ ◌&&◌ month day)

@@ -1,56 +1,45 @@
--- `reader::are_azimuths` meets its contract. The invariant: the azimuths that are left decide.
-use mathlib.Core.List.{List}
-use mathlib.Core.Path.{◌∙◌, ◌≡◌, ap, sym}
-use Prim.Native.Nat.{◌/◌, ◌<◌, ℕ}
+-- `reader::are_azimuths` meets its contract: each whole chunk of four octets is one azimuth.
+use mathlib.Core.List.{List, ◌++◌, ◌∷◌}
+use mathlib.Core.Path.{◌∙◌, ◌≡◌, ap, ap₂, sym}
+use Prim.Native.Nat.{◌/◌, ◌<◌, ℕ, suc}
 use native.Mathlib.Omega.{arith}
-use lib.Dec.{lit≤}
-use lib.ListN.{get_or, length}
-use Rattle.strip.proofs.AzimuthLaws.{all_good, count_in, entry_in, judged_none, one_bad, one_good}
-use Rattle.strip.specs.Checks.{is_azimuth}
+use lib.ListN.{length, length-append, take}
+use lib.Seq.{drop_at, take_all, take_at}
+use Rattle.std.proofs.Common.{rules, tests}
+use Rattle.std.proofs.lemmas.Iterator.Search.{all_from_yields_List}
+use Rattle.std.proofs.lemmas.Iterator.Splits.{YieldsList-from_shown_while}
+use Rattle.std.specs.Slice.Iter.{chunks_exact_rest, chunks_exact_size, chunks_exact_steps}
+use Rattle.octets.specs.Octets.{alike, number, parted}
+use Rattle.strip.proofs.AzimuthLaws.{count_in, judged}
+use Rattle.strip.specs.Checks.{are_azimuths, is_azimuth}
 use Rattle.strip.specs.Format.{azimuth_size, azimuths_in}
 use Rattle.strip_reader.proofs.reader.are_azimuths.Goals as goal
-use Rattle.strip_reader.proofs.reader.are_azimuths.Goals.{After-is_azimuth, At-loop-step}
 
--- what a turn told of the azimuth at its step
-module _ (c : After-is_azimuth) where
-  abbrev turn : At-loop-step
-  turn = (goal.at.After-is_azimuth c).At-loop-step
+-- the azimuths of a part whose first four octets are one
+one_more : (four rest : List ℕ) → length four ≡ azimuth_size → azimuths_in (four ++ rest) ≡ number (take azimuth_size four) ∷ azimuths_in rest
+unfolding azimuths_in parted
+one_more four rest e =
+    let count : length (four ++ rest) / azimuth_size ≡ suc (length rest / azimuth_size) = omega (arith, length-append four rest) in
+    ap (λ (n : ℕ). parted (alike n azimuth_size) (four ++ rest)) count
+    ∙ ap₂ ◌∷◌
+    (ap number (take_at four rest azimuth_size e ∙ sym (take_all azimuth_size four (omega (arith, e)))))
+    (ap (parted (alike (length rest / azimuth_size) azimuth_size)) (drop_at four rest azimuth_size e))
 
-  abbrev part : List ℕ
-  part = turn.args.part.now
-
-  here : turn.loop-step.step < length part / azimuth_size
-  here = c.loop-step-test.true
-
-  within : turn.loop-step.step < length (azimuths_in part)
-  within = omega (arith, here, count_in part)
-
-  judged : is_azimuth (get_or (azimuths_in part) turn.loop-step.step 0) ≡ c.is_azimuth.result
-  judged = sym (c.is_azimuth.ensures ∙ ap is_azimuth (c.number_at.ensures ∙ entry_in part turn.loop-step.step here))
-
-pub loop-step-init : goal.loop-step-init
-loop-step-init c = (omega arith, judged_none (azimuths_in c.args.part.now))
-
-pub overflow_mul-step : goal.overflow_mul-step
-overflow_mul-step c = omega (arith, c.loop-step-test.true, c.well_formed.0.0)
-
-pub number_at-requires : goal.number_at-requires
-number_at-requires c = (omega (arith, c.loop-step-test.true), lit≤ tt)
-
-pub returns-then-not-is_azimuth : goal.returns-then-not-is_azimuth
-returns-then-not-is_azimuth c =
-    let k = (goal.at.returns-then-not-is_azimuth c).After-is_azimuth in
-    one_bad (azimuths_in (part k)) (turn k).loop-step.step (turn k).loop-step.invariant.1 (within k) (judged k ∙ c.if-not-is_azimuth.true)
-
-pub loop-step-smaller : goal.loop-step-smaller
-loop-step-smaller c = omega (arith, here (goal.at.loop-step-smaller c).After-is_azimuth)
-
-pub loop-step-preserved : goal.loop-step-preserved
-loop-step-preserved c =
-    let k = (goal.at.loop-step-preserved c).After-is_azimuth in
-    (omega (arith, here k), one_good (azimuths_in (part k)) (turn k).loop-step.step (turn k).loop-step.invariant.1 (within k) (judged k ∙ c.if-not-is_azimuth.false))
+-- too few octets for one
+no_more : (part : List ℕ) → length part < azimuth_size → length (azimuths_in part) ≡ 0
+no_more part h = omega (arith, count_in part)
 
 pub returns : goal.returns
 returns c =
-    let part = c.args.part.now in
-    all_good (azimuths_in part) c.loop-step.step c.loop-step.invariant.1 (omega (arith, c.loop-step-test.false, count_in part))
+    let chunks =
+    YieldsList-from_shown_while chunks_exact_steps (λ x. number (take azimuth_size x.now)) (λ s. azimuths_in (chunks_exact_rest s))
+    (λ s. chunks_exact_size s ≡ azimuth_size)
+    (λ s t size step. no_more (chunks_exact_rest s) (omega (arith, size, step.1.0)))
+    (λ s x t size step. (
+      step.0 ∙ size,
+      ap azimuths_in step.1.0 ∙ one_more x.now (chunks_exact_rest t) (step.1.1 ∙ size),
+    ))
+    c.chunks_exact.result c.chunks_exact.ensures.size in
+    all_from_yields_List is_azimuth _ _ c.all.result c.all.ensures.ran chunks (λ x b q k. search (rules, tests))
+    ∙ judged (azimuths_in (chunks_exact_rest c.chunks_exact.result))
+    ∙ ap (λ (part : List ℕ). are_azimuths (azimuths_in part)) c.chunks_exact.ensures.rest

@@ -1,37 +1,22 @@
 -- `reader::read` meets its contract.
-use mathlib.Core.List.{List}
 use mathlib.Core.Path.{◌∙◌, ◌≡◌, ap, refl, sym}
-use Prim.Native.Nat.{ℕ}
 use native.Mathlib.Omega.{arith}
-use lib.ListN.{length}
-use borrow.Author.Rules.{rules}
-use Rattle.calendar.proofs.RefusalLaws.{never_none}
+use Rattle.calendar.proofs.RefusalLaws.{handed_up, never_none}
 use Rattle.calendar.specs.Refusal.{first, verdict_number}
-use Rattle.octets.proofs.FieldLaws.{parted_length}
 use Rattle.sky.proofs.AnswerLaws.{answered_with, refused_with}
-use Rattle.strip.specs.Format.{field_count, fields, header_in, header_widths}
-use Rattle.strip_reader.specs.Reading.{no_header, read, read_refusals}
+use Rattle.strip.specs.Format.{fields, header_in}
+use Rattle.strip_reader.specs.Reading.{no_header, read, read_answer, read_refusals}
 use Rattle.strip_reader.proofs.ReadLaws.{one_reading, too_few}
 use Rattle.strip_reader.proofs.reader.read.Goals as goal
-use Rattle.strip_reader.proofs.reader.read.Goals.{After-header_in-header, Start}
+use Rattle.strip_reader.proofs.reader.read.Goals.{After-from-header}
 
 -- what the header is read from
-module _ (c : After-header_in-header) where
-  abbrev s : Start
-  s = (goal.at.After-header_in-header c).Start
-
-  abbrev octets : List ℕ
-  octets = s.args.strip.now
-
-  numbers_are : c.fields_in-numbers.result ≡ fields octets
+module _ (c : After-from-header) where
+  numbers_are : c.fields_in-numbers.result ≡ fields c.args.strip.now
   numbers_are = c.fields_in-numbers.ensures
 
-  header_is : c.header_in-header.result ≡ header_in (fields octets)
-  header_is = c.header_in-header.ensures ∙ ap header_in numbers_are
-
-fields_are_ten : (octets : List ℕ) → length (fields octets) ≡ field_count
-unfolding fields
-fields_are_ten octets = parted_length header_widths octets
+  header_is : c.from-header.result ≡ header_in (fields c.args.strip.now)
+  header_is = c.from-header.ensures ∙ ap header_in numbers_are
 
 pub returns-then-strip-lt-HEADER : goal.returns-then-strip-lt-HEADER
 unfolding read
@@ -42,24 +27,22 @@ returns-then-strip-lt-HEADER c =
 
 pub read_verdict-requires : goal.read_verdict-requires
 read_verdict-requires c =
-    let k = (goal.at.read_verdict-requires c).After-header_in-header in record {
-      header_size_in_bounds = (k.if-strip-lt-HEADER.false, ap length (numbers_are k) ∙ fields_are_ten (octets k));
+    let k = (goal.at.read_verdict-requires c).After-from-header in record {
+      header_size_in_bounds = c.if-strip-lt-HEADER.false;
       numbers_value = (numbers_are k, header_is k);
     }
 
-pub enum_told-1 : goal.enum_told-1
-enum_told-1 c = search rules
-
-pub returns-in-Passed : goal.returns-in-Passed
+pub returns-in_err-read_verdict : goal.returns-in_err-read_verdict
 unfolding read
-returns-in-Passed c =
-    let k = (goal.at.returns-in-Passed c).After-header_in-header in
-    let is : first (read_refusals (octets k)) ≡ 0 = sym c.read_verdict.ensures ∙ ap verdict_number c.in-Passed.is in
-    one_reading (answered_with no_header (header_in (fields (octets k))) is (header_is k))
+returns-in_err-read_verdict c =
+    let octets = c.args.strip.now in
+    let refusal = c.in_err-read_verdict.field-0.0 in
+    let is = sym c.read_verdict.ensures ∙ ap verdict_number c.in_err-read_verdict.was in
+    one_reading (ap read_answer (handed_up c.from_residual.ensures) ∙ refused_with no_header (header_in (fields octets)) is (never_none refusal))
 
-pub returns-in-Refused : goal.returns-in-Refused
+pub returns : goal.returns
 unfolding read
-returns-in-Refused c =
-    let k = (goal.at.returns-in-Refused c).After-header_in-header in
-    let refusal = c.in-Refused.refusal in
-    one_reading (refused_with no_header (header_in (fields (octets k))) (sym c.read_verdict.ensures ∙ ap verdict_number c.in-Refused.is) (never_none refusal))
+returns c =
+    let k = (goal.at.returns c).After-from-header in
+    let octets = c.args.strip.now in
+    one_reading (answered_with no_header (header_in (fields octets)) (sym c.read_verdict.ensures ∙ ap verdict_number c.in_ok-read_verdict.was) (header_is k))

@@ -4,15 +4,15 @@ use mathlib.Core.Path.{◌∙◌, ◌≡◌, ap}
 use Prim.Native.Nat.{◌*◌, ◌+◌, ℕ}
 use native.Mathlib.Omega.{arith}
 use lib.Dec.{eqb}
-use Rattle.calendar.proofs.RefusalLaws.{check, joined}
-use Rattle.calendar.specs.Refusal.{◌unless◌}
+use Rattle.calendar.proofs.RefusalLaws.{check, exit, passed, refused}
+use Rattle.calendar.specs.Refusal.{◌unless◌, verdict_number}
 use Rattle.numbers.proofs.Machine.{any}
 use Rattle.strip.proofs.CheckLaws.{steps_most}
 use Rattle.strip.specs.Checks.{are_azimuths, steps}
 use Rattle.strip.specs.Format.{azimuth_part, azimuth_size, azimuths_in, header_follows, header_size}
 use Rattle.text.proofs.LineLaws.{to_end}
 use Rattle.strip_reader.proofs.reader.step_verdict.Goals as goal
-use Rattle.strip_reader.proofs.reader.step_verdict.Goals.{After-steps_of}
+use Rattle.strip_reader.proofs.reader.step_verdict.Goals.{After-steps_of, After-unless}
 
 -- how many steps there are
 module _ (c : After-steps_of) where
@@ -25,11 +25,20 @@ overflow_mul-steps_of c = omega (arith, counted (goal.at.overflow_mul-steps_of c
 pub overflow_add-steps_of : goal.overflow_add-steps_of
 overflow_add-steps_of c = omega (arith, counted (goal.at.overflow_add-steps_of c).After-steps_of, steps_most c.args.step)
 
+by_length : (c : After-unless) → verdict_number c.unless.result ≡ 20 unless eqb c.args.stated (header_follows + azimuth_size * steps c.args.step)
+by_length c =
+    c.unless.ensures ∙ ap (λ (n : ℕ). 20 unless eqb c.args.stated (header_follows + azimuth_size * n)) (counted (goal.at.After-unless c).After-steps_of)
+
+abbrev after_length : List ℕ → List ℕ
+after_length octets = 26 unless are_azimuths (azimuths_in (azimuth_part octets)) ∷ []
+
+pub returns-in_err-unless : goal.returns-in_err-unless
+returns-in_err-unless c =
+    exit c.from_residual.result c.in_err-unless.field-0.0 c.from_residual.ensures
+    (refused (after_length c.args.strip.now) c.in_err-unless.was (by_length (goal.at.returns-in_err-unless c).After-unless))
+
 pub returns : goal.returns
 returns c =
-    let k = (goal.at.returns c).After-steps_of in
-    let a = k.args in
-    let octets = a.strip.now in
-    joined (20 unless eqb a.stated (header_follows + azimuth_size * steps a.step) ∷ []) (26 unless are_azimuths (azimuths_in (azimuth_part octets)) ∷ []) c.or_else.ensures
-    (check 20 c.unless-by_length.ensures (ap (λ (n : ℕ). eqb a.stated (header_follows + azimuth_size * n)) (counted k)))
-    (check 26 c.unless-by_azimuth.ensures (c.are_azimuths.ensures ∙ ap (λ (part : List ℕ). are_azimuths (azimuths_in part)) (to_end octets header_size)))
+    let octets = c.args.strip.now in
+    passed (after_length octets) c.in_ok-unless.was (by_length (goal.at.returns c).After-unless)
+    (check 26 c.unless-2.ensures (c.are_azimuths.ensures ∙ ap (λ (part : List ℕ). are_azimuths (azimuths_in part)) (to_end octets header_size)))
