@@ -2,6 +2,7 @@
 use mathlib.Core.List.{[], ◌∷◌}
 use mathlib.Core.Path.{◌∙◌, ◌≡◌, refl, sym}
 use Prim.Native.Nat.{◌<◌, ◌^◌, ◌≤◌, ℕ}
+use native.Mathlib.Nat.{le_trans}
 use lib.IntN.{◌*ℤ◌, ◌+ℤ◌, ◌-ℤ◌, nat_abs, neg_ℤ, pos, ℤ}
 use lib.Signed.{mag}
 use Rattle.arithmetic.specs.Floor.{⌊◌÷◌⌋}
@@ -10,12 +11,12 @@ use Rattle.arithmetic.proofs.Solver.{◌:*◌, ◌:+◌, ◌:-◌, neg', x0, x1,
 use Rattle.number_rules.specs.ArctangentTable.{turn_by}
 use Rattle.numbers.specs.Whole.{sign}
 use Rattle.number_rules.proofs.ArctangentTableLaws.{turn_small}
-use Rattle.numbers.proofs.Machine.{Mirror, ◌⊕◌, ◌⊗◌, fits, gave, kept, minus, told}
+use Rattle.numbers.proofs.Machine.{Mirror, ◌⊕◌, ◌⊗◌, asked, fits, gave, kept, minus, told}
 use Rattle.numbers.proofs.SignLaws.{sign_small}
 use Rattle.arctangent.specs.Arctangent.{step}
 use Rattle.arctangent.specs.Turning.{turning}
 use Rattle.arctangent.specs.declared.turning.Turning.{Turning}
-use Rattle.arctangent.proofs.ArctangentLaws.{step_signed}
+use Rattle.arctangent.proofs.ArctangentLaws.{step_signed, sum_room}
 use Rattle.arctangent.proofs.turning.stepped.Goals as goal
 
 taken : (y s d : ℤ) → y +ℤ neg_ℤ s *ℤ d ≡ y -ℤ s *ℤ d
@@ -44,6 +45,13 @@ module _ (y : ℤ) {r : ℤ} (f : mag r < 2 ^ 63) (e : r ≡ sign y) where
           angle = (kept angle tt).same i;
         })
         ∙ sym (step_signed k (record { x = x; y = y; angle = a }))
+
+pub plus_times-requires-2 : goal.plus_times-requires-2
+plus_times-requires-2 g c₀ =
+    let s = turning g.T.Coordinate.number c₀.args.s in
+    let size = c₀.requires.3 in
+    let small = asked (c' s.y c₀.sign-c.type_inv c₀.sign-c.ensures) {k = 1} tt in
+    (c₀.requires.2.1, c₀.floored-dy.ensures.1.0, small, sum_room s.y (g.T.Coordinate.number c₀.floored-dy.result) _ size.y_size (le_trans c₀.floored-dy.ensures.1.1 size.x_size) small)
 
 pub overflow_add-result : goal.overflow_add-result
 overflow_add-result g c₀ =
