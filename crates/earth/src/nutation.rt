@@ -121,8 +121,9 @@ impl RowTerms<9> for NutationTerms {
             × (result.cosine ≡ cosine_term self.now.arguments self.now.u row) }
     {
         let angle = row_angle(self.arguments, row);
-        let first = weight(self.u, row[5], row[6]);
-        let second = weight(self.u, row[7], row[8]);
+        let [.., a, b, c, d] = row;
+        let first = weight(self.u, a, b);
+        let second = weight(self.u, c, d);
         weighted(first, second, angle)
     }
 }

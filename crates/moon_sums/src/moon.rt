@@ -8,7 +8,7 @@ ghost use Rattle.sum_terms.specs.TermRange.{Turns};
 
 use numbers::angle::Angle;
 use numbers::sine::sine;
-use numbers::whole::{absolute, floor_div};
+use numbers::whole::floor_div;
 use sum_rules::instant::{Polynomial, Powers};
 use sum_rules::moon::Eccentricity;
 use sum_tables::moon_terms::{LATITUDE, LONGITUDE_DISTANCE};
@@ -139,14 +139,11 @@ fn weight(e: Eccentricity, m: i32, l: i32) -> i64
     requires { Slight e × ((nat_abs m ≤ 4) × (nat_abs l ≤ 2 ^ 25)) }
     ensures { result ≡ weight e (nat_abs m) l }
 {
-    let m = absolute(m as i64);
-    let l = l as i64;
-    if m == 0 {
-        100 * l
-    } else if m == 1 {
-        floor_div(l * e.e, 10_000)
-    } else {
-        floor_div(l * e.e2, 10_000)
+    let l = i64::from(l);
+    match m.unsigned_abs() {
+        0 => 100 * l,
+        1 => floor_div(l * e.e, 10_000),
+        _ => floor_div(l * e.e2, 10_000),
     }
 }
 
@@ -170,9 +167,10 @@ impl RowTerms<6> for MoonTerms {
         ensures { (result.sine ≡ sine_term self.now.arguments self.now.e row)
             × (result.cosine ≡ cosine_term self.now.arguments self.now.e row) }
     {
-        let angle = angle_of(self.arguments, [0, row[0], row[1], row[2], row[3]]);
-        let first = weight(self.e, row[1], row[4]);
-        let second = weight(self.e, row[1], row[5]);
+        let [d, m, anomaly, f, by_sine, by_cosine] = row;
+        let angle = angle_of(self.arguments, [0, d, m, anomaly, f]);
+        let first = weight(self.e, m, by_sine);
+        let second = weight(self.e, m, by_cosine);
         weighted(first, second, angle)
     }
 }
@@ -190,7 +188,8 @@ fn longitude_added(sum: i64, arguments: [i64; 5], a1: i64, a2: i64) -> i64
     requires { (nat_abs sum ≤ 2 ^ 62) × Turns arguments }
     ensures { result ≡ longitude_added sum arguments a1 a2 }
 {
-    sum + added(3958, a1) + added(1962, arguments[0] - arguments[4]) + added(318, a2)
+    let [mean, _, _, _, node] = arguments;
+    sum + added(3958, a1) + added(1962, mean - node) + added(318, a2)
 }
 
 // The latitude's rows and what is added to them: L' is the mean longitude, M' the anomaly, F is from the node.
@@ -198,9 +197,7 @@ fn latitude_added(sum: i64, arguments: [i64; 5], a1: i64, a3: i64) -> i64
     requires { (nat_abs sum ≤ 2 ^ 62) × (Turns arguments × (nat_abs a1 ≤ 2 ^ 36)) }
     ensures { result ≡ latitude_added sum arguments a1 a3 }
 {
-    let mean = arguments[0];
-    let anomaly = arguments[3];
-    let node = arguments[4];
+    let [mean, _, _, anomaly, node] = arguments;
     sum + added(-2235, mean)
         + added(382, a3)
         + added(175, a1 - node)

@@ -3,7 +3,7 @@ ghost use Rattle.std.specs.Prelude.{◌≡◌, ◌≤◌, ◌^◌, leb, pos, nat
 ghost use Rattle.sum_rules.specs.Instant.{universal_time, terrestrial_time, Accepted, furthest, powers, value, Suits, Reached};
 
 use numbers::angle::Angle;
-use numbers::whole::{absolute, floor_div, mul_div};
+use numbers::whole::{floor_div, mul_div};
 use sum_rules::instant::{CENTURY, DAY, FURTHEST, Instant, Polynomial, Powers};
 
 // UT of the days from 2000-01-01, the units of the day, and UT1 minus UTC.
@@ -26,7 +26,7 @@ pub fn terrestrial_time(ut: i64, delta: i64) -> i64
 pub fn is_within_reach(n: i64) -> bool
     ensures { result ≡ leb (nat_abs n) furthest }
 {
-    absolute(n) <= FURTHEST
+    n.unsigned_abs() <= FURTHEST
 }
 
 // An accepted instant, from its day, the units of the day (and a batch's offset), UT1 minus UTC and delta-T.

@@ -43,9 +43,7 @@ fn row_value(n: i64, row: [u64; 3]) -> i64
     requires { (nat_abs n ≤ furthest) × SmallRay row }
     ensures { result ≡ row_value n row }
 {
-    let a = row[0];
-    let b = row[1];
-    let c = row[2];
+    let [a, b, c] = row;
     if b + c == 0 {
         100 * a as i64
     } else {

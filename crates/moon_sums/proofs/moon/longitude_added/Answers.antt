@@ -16,36 +16,42 @@ module _ (s : Start) where
   L'_less_F = argument 0 ⊖ argument 4
 
 -- where the function began, from each term
+abbrev from1 : After-added → Start
+from1 c = (goal.at.After-added c).Start
+
 abbrev from2 : After-added-2 → Start
-from2 c = c.before.before.before.before
+from2 c = from1 (goal.at.After-added-2 c).After-added
 
 abbrev from3 : After-added-3 → Start
-from3 c = from2 c.before
+from3 c = from2 (goal.at.After-added-3 c).After-added-2
 
 -- the sum with each term
 abbrev sum1 : After-added → Mirror
 sum1 c =
-    arg c.ranges.sum c.requires.0 ⊕ added_gave (pos 3958) c.args.a1 c.added.type_inv c.added.ensures (any c.ranges.a1).same tt
+    let s = from1 c in
+    arg s.ranges.sum s.requires.0 ⊕ added_gave (pos 3958) s.args.a1 c.added.type_inv c.added.ensures (any s.ranges.a1).same tt
 
 abbrev sum2 : After-added-2 → Mirror
 sum2 c =
     let angle = L'_less_F (from2 c) in
-    kept (sum1 c.before.before.before) tt ⊕ added_gave (pos 1962) angle.number c.added-2.type_inv c.added-2.ensures (kept angle tt).same tt
+    kept (sum1 (goal.at.After-added-2 c).After-added) tt ⊕ added_gave (pos 1962) angle.number c.added-2.type_inv c.added-2.ensures (kept angle tt).same tt
 
 abbrev sum3 : After-added-3 → Mirror
-sum3 c = kept (sum2 c.before) tt ⊕ added_gave (pos 318) (from3 c).args.a2 c.added-3.type_inv c.added-3.ensures (any (from3 c).ranges.a2).same tt
+sum3 c =
+    let s = from3 c in
+    kept (sum2 (goal.at.After-added-3 c).After-added-2) tt ⊕ added_gave (pos 318) s.args.a2 c.added-3.type_inv c.added-3.ensures (any s.ranges.a2).same tt
 
 pub overflow_add-result : goal.overflow_add-result
-overflow_add-result c = fits (sum1 c) tt
+overflow_add-result c = fits (sum1 (goal.at.overflow_add-result c).After-added) tt
 
-pub overflow_sub-arguments : goal.overflow_sub-arguments
-overflow_sub-arguments c = fits (L'_less_F c.before.before.before) tt
+pub overflow_sub-mean : goal.overflow_sub-mean
+overflow_sub-mean c = fits (L'_less_F (from1 (goal.at.overflow_sub-mean c).After-added)) tt
 
 pub overflow_add-result-2 : goal.overflow_add-result-2
-overflow_add-result-2 c = fits (sum2 c) tt
+overflow_add-result-2 c = fits (sum2 (goal.at.overflow_add-result-2 c).After-added-2) tt
 
 pub overflow_add-result-3 : goal.overflow_add-result-3
-overflow_add-result-3 c = fits (sum3 c) tt
+overflow_add-result-3 c = fits (sum3 (goal.at.overflow_add-result-3 c).After-added-3) tt
 
 pub returns : goal.returns
-returns c = (kept (sum3 c) tt).same
+returns c = (kept (sum3 (goal.at.returns c).After-added-3) tt).same
