@@ -39,8 +39,8 @@ use Rattle.strip_writer.proofs.WriteLaws.{air_none, azimuths_good, count_is, few
 -- ---- the octets of air and body
 air_again : (air : StripAir) → is_none air ≡ true → air_in written_air ≡ air
 air_again None e = refl
-air_again (Measured P T) e = absurd (off e)
-air_again (CarriedOver P T) e = absurd (off e)
+air_again (Measured air) e = absurd (off e)
+air_again (CarriedOver air) e = absurd (off e)
 
 body_again : (body : Body) → body_in (body_byte body) ≡ body
 body_again Sun = refl

@@ -9,13 +9,15 @@ use lib.Dec.{eqb, leb}
 use lib.ListN.{length, length-append, length-replicate}
 use borrow.Author.Tests.{eqb-true, leb-true, ne_eqb}
 use Rattle.calendar.proofs.RefusalLaws.{none, none_append, passes}
+use Rattle.std.specs.Prelude.{Result}
+use Rattle.calendar.specs.declared.refusal.Refusal.{Refusal}
 use Rattle.calendar.specs.Refusal.{OneAnswer, ◌unless◌, first}
 use Rattle.day.specs.Curve.{minutes}
 use Rattle.octets.proofs.FieldLaws.{joined_length, total_alike}
 use Rattle.octets.proofs.PutLaws.{put_twice, put_whole}
 use Rattle.octets.specs.Octets.{alike, joined, total}
 use Rattle.octets.specs.Put.{Put}
-use Rattle.sky.proofs.AnswerLaws.{from_answer, judged_refusal, one_from, refused_back}
+use Rattle.sky.proofs.AnswerLaws.{judged_refusal, one_answered}
 use Rattle.sky.specs.Answer.{Answer}
 use Rattle.strip.proofs.CheckLaws.{steps_most}
 use Rattle.strip.specs.Air.{is_none}
@@ -23,16 +25,10 @@ use Rattle.strip.specs.Checks.{are_azimuths, header_refusals, steps}
 use Rattle.strip.specs.Format.{HeaderSize, Strip, azimuth_size, encode, header_numbers, header_size, header_widths, strip_size}
 use Rattle.strip_writer.specs.RoundTrip.{SizeAgain}
 use Rattle.strip_writer.specs.Writing.{left_in, own_refusals, strip_refusals, write, write_answer, write_refusals}
-use Rattle.strip_writer.specs.declared.writer.Writing.{Writing}
-use Rattle.strip_writer.specs.declared.writer.Writing.TheVariants.{Refused, Written}
 
 -- ---- one answer and no other
-write_back : (x : Writing) → from_answer Written Refused (write_answer x) ≡ x
-write_back (Written count) = refl
-write_back (Refused r) = refused_back Written Refused 0 r
-
-pub one_writing : {found : Writing} {rule : Answer ℕ} → write_answer found ≡ rule → OneAnswer write_answer rule found
-one_writing = one_from Written Refused write_back
+pub one_writing : {found : Result ℕ Refusal} {rule : Answer ℕ} → write_answer found ≡ rule → OneAnswer write_answer rule found
+one_writing = one_answered (λ x y same. same)
 
 -- ---- checks that pass
 module _ (strip : Strip) (e : first (strip_refusals strip) ≡ 0) where

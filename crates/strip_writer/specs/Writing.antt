@@ -1,12 +1,11 @@
 -- What the writer answers, and leaves in its buffer (02, Item 6: "The writer checks what it is handed likewise", as Item 9 mends it).
-use Rattle.std.specs.Prelude.{cond, List, [], ◌++◌, ◌∷◌, ℕ, eqb, leb, drop, length}
-use Rattle.calendar.specs.Refusal.{◌unless◌, first, number}
-use Rattle.sky.specs.Answer.{Answer, judged}
+use Rattle.std.specs.Prelude.{Result, cond, List, [], ◌++◌, ◌∷◌, ℕ, eqb, leb, drop, length}
+use Rattle.calendar.specs.Refusal.{◌unless◌, first}
+use Rattle.calendar.specs.declared.refusal.Refusal.{Refusal}
+use Rattle.sky.specs.Answer.{Answer, answered, judged}
 use Rattle.strip.specs.Air.{is_none}
 use Rattle.strip.specs.Checks.{are_azimuths, header_refusals, steps}
 use Rattle.strip.specs.Format.{Strip, encode, strip_size}
-use Rattle.strip_writer.specs.declared.writer.Writing.{Writing}
-use Rattle.strip_writer.specs.declared.writer.Writing.TheVariants.{Refused, Written}
 
 -- 20 wrong number of azimuths, 26, 32 carried-over or any measured air
 abbrev pub own_refusals : Strip → List ℕ
@@ -28,9 +27,8 @@ write_refusals strip room = strip_refusals strip ++ (28 unless leb (strip_size (
 unfoldable pub write : Strip → ℕ → Answer ℕ
 write strip room = judged (first (write_refusals strip room)) 0 (strip_size (length strip.azimuths))
 
-abbrev pub write_answer : Writing → Answer ℕ
-write_answer (Written count) = record { refusal = 0; value = count }
-write_answer (Refused refusal) = record { refusal = number refusal; value = 0 }
+abbrev pub write_answer : Result ℕ Refusal → Answer ℕ
+write_answer = answered (λ count. count) 0
 
 -- what the buffer holds afterwards: the strip, and its rest as it was; where refused, all as it was
 abbrev pub left_in : Strip → List ℕ → List ℕ

@@ -5,79 +5,55 @@ ghost use Rattle.strip.specs.Checks.{are_azimuths};
 ghost use Rattle.strip.specs.Format.{strip_of, strip_size};
 ghost use Rattle.strip_writer.specs.Writing.{left_in, write, write_answer, write_refusals};
 
-use calendar::refusal::{Refusal, StripRefusal, Verdict, or_else, unless};
+use calendar::refusal::{Refusal, StripRefusal, unless};
 use octets::fields::{put_alike, put_fields};
-use strip::air::is_none;
 use strip::checks::{header_verdict, is_azimuth, steps_of};
-use strip::header::{AZIMUTH, HEADER, Header, WIDTHS, numbers_of};
-
-#[derive(Clone, Copy)]
-pub enum Writing {
-    Written(usize),
-    Refused(Refusal),
-}
+use strip::header::{AZIMUTH, HEADER, Header, WIDTHS};
 
 // Whether every number is an azimuth.
 fn are_azimuths(azimuths: &[u32]) -> bool
     ensures { result ≡ are_azimuths azimuths.now }
 {
-    let mut step = 0;
-    while step < azimuths.len() {
-        if !is_azimuth(azimuths[step]) {
-            return false;
-        }
-        step += 1;
-    }
-    true
+    azimuths.iter().all(|azimuth| is_azimuth(*azimuth))
 }
 
 // Whether so many azimuths and their header have room. The product is not formed, since it may pass 64 bits.
 fn has_room(count: usize, room: usize) -> bool
     ensures { result ≡ leb (strip_size count) room }
 {
-    if room < HEADER {
-        return false;
-    }
-    count <= (room - HEADER) / AZIMUTH
+    HEADER <= room && count <= (room - HEADER) / AZIMUTH
 }
 
 // All of the writer's checks, of a buffer of so many octets.
-fn write_verdict(header: Header, azimuths: &[u32], room: usize) -> Verdict
+fn write_verdict(header: Header, azimuths: &[u32], room: usize) -> Result<(), Refusal>
     ensures { verdict_number result ≡ first (write_refusals (strip_of header azimuths.now) room) }
 {
-    let air = header.air;
-    match header_verdict(header) {
-        Verdict::Passed => {
-            let by_count = unless(
-                Refusal::Strip(StripRefusal::Length),
-                azimuths.len() == steps_of(header.step),
-            );
-            let by_azimuth = unless(
-                Refusal::Strip(StripRefusal::Azimuth),
-                are_azimuths(azimuths),
-            );
-            let by_air = unless(Refusal::Strip(StripRefusal::MeasuredAir), is_none(air));
-            let by_room = unless(
-                Refusal::Strip(StripRefusal::Buffer),
-                has_room(azimuths.len(), room),
-            );
-            or_else(by_count, or_else(by_azimuth, or_else(by_air, by_room)))
-        }
-        Verdict::Refused(refusal) => Verdict::Refused(refusal),
-    }
+    header_verdict(header)?;
+    unless(
+        Refusal::Strip(StripRefusal::Length),
+        azimuths.len() == steps_of(header.step),
+    )?;
+    unless(
+        Refusal::Strip(StripRefusal::Azimuth),
+        are_azimuths(azimuths),
+    )?;
+    unless(
+        Refusal::Strip(StripRefusal::MeasuredAir),
+        header.air.is_none(),
+    )?;
+    unless(
+        Refusal::Strip(StripRefusal::Buffer),
+        has_room(azimuths.len(), room),
+    )
 }
 
 // A strip from the first octet of a buffer on; how many octets it has. The buffer's rest is left alone, and nothing is written before all is judged.
-pub fn write(header: Header, azimuths: &[u32], out: &mut [u8]) -> Writing
+pub fn write(header: Header, azimuths: &[u32], out: &mut [u8]) -> Result<usize, Refusal>
     ensures one_answer { OneAnswer write_answer (write (strip_of header azimuths.now) (length out.old)) result }
     ensures out_after { out.new ≡ left_in (strip_of header azimuths.now) out.old }
 {
-    match write_verdict(header, azimuths, out.len()) {
-        Verdict::Passed => {
-            let numbers = numbers_of(header, azimuths.len());
-            let next = put_fields(out, 0, &WIDTHS, &numbers);
-            Writing::Written(put_alike(out, next, AZIMUTH, azimuths))
-        }
-        Verdict::Refused(refusal) => Writing::Refused(refusal),
-    }
+    write_verdict(header, azimuths, out.len())?;
+    let numbers = header.numbers(azimuths.len());
+    let next = put_fields(out, 0, &WIDTHS, &numbers);
+    Ok(put_alike(out, next, AZIMUTH, azimuths))
 }

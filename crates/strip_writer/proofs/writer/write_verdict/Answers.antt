@@ -1,5 +1,6 @@
 -- `writer::write_verdict` meets its contract: the header's checks come first, and the others are made where they pass.
-use mathlib.Core.List.{List, [], ◌++◌, ◌∷◌}
+use mathlib.Core.Bool.{Bool}
+use mathlib.Core.List.{List, [], ◌∷◌}
 use mathlib.Core.Path.{◌∙◌, ◌≡◌, ap, sym}
 use Prim.Native.Nat.{ℕ}
 use lib.Dec.{eqb, leb}
@@ -8,66 +9,83 @@ use borrow.Author.Rules.{rules}
 use mir.Syntax.{w64}
 use mir.Val.{of_z, to_z}
 use mir.ValLaws.{to_z-of_z}
-use Rattle.calendar.proofs.RefusalLaws.{check, joined, never_none, passed_first, refused_first}
-use Rattle.calendar.specs.Refusal.{◌unless◌, first, verdict_number}
+use Rattle.calendar.proofs.RefusalLaws.{check, exit, passed, passed_all, refused, refused_among}
+use Rattle.calendar.specs.Refusal.{◌unless◌, verdict_number}
 use Rattle.strip.proofs.CheckLaws.{header_passes}
 use Rattle.strip.specs.Air.{is_none}
 use Rattle.strip.specs.Checks.{are_azimuths, header_refusals, is_step, steps}
 use Rattle.strip.specs.Format.{strip_size}
 use Rattle.strip_writer.proofs.writer.write_verdict.Goals as goal
-use Rattle.strip_writer.proofs.writer.write_verdict.Goals.{After-header_verdict, Start}
+use Rattle.strip_writer.proofs.writer.write_verdict.Goals.{After-header_verdict, After-unless, Start}
 
--- the header's checks, and the others
-module _ (k : After-header_verdict) where
-  abbrev s : Start
-  s = (goal.at.After-header_verdict k).Start
-
+-- the checks one after the other, and what is judged behind each
+module _ (s : Start) where
   abbrev front : List ℕ
   front = header_refusals s.args.header
 
-  abbrev by_count : List ℕ
-  by_count = 20 unless eqb (length s.args.azimuths.now) (steps s.args.header.step) ∷ []
+  abbrev by_count : ℕ
+  by_count = 20 unless eqb (length s.args.azimuths.now) (steps s.args.header.step)
 
-  abbrev by_azimuth : List ℕ
-  by_azimuth = 26 unless are_azimuths s.args.azimuths.now ∷ []
+  abbrev after_air : List ℕ
+  after_air = 28 unless leb (strip_size (length s.args.azimuths.now)) s.args.room ∷ []
 
-  abbrev by_air : List ℕ
-  by_air = 32 unless is_none s.args.header.air ∷ []
+  abbrev after_azimuth : List ℕ
+  after_azimuth = 32 unless is_none s.args.header.air ∷ after_air
 
-  abbrev by_room : List ℕ
-  by_room = 28 unless leb (strip_size (length s.args.azimuths.now)) s.args.room ∷ []
+  abbrev after_count : List ℕ
+  after_count = 26 unless are_azimuths s.args.azimuths.now ∷ after_azimuth
 
   abbrev others : List ℕ
-  others = by_count ++ (by_azimuth ++ (by_air ++ by_room))
-
-  front_is : verdict_number k.header_verdict.result ≡ first front
-  front_is = k.header_verdict.ensures
+  others = by_count ∷ after_count
 
   step_is : to_z w64 (of_z w64 s.args.header.step) ≡ s.args.header.step
   step_is = to_z-of_z w64 s.args.header.step (search rules)
 
-pub enum_told-1 : goal.enum_told-1
-enum_told-1 c = search rules
+told_count : (c : After-unless) → verdict_number c.unless.result ≡ by_count (goal.at.After-unless c).Start
+told_count c =
+    let s = (goal.at.After-unless c).Start in
+    c.unless.ensures ∙ ap (λ (n : ℕ). 20 unless eqb (length s.args.azimuths.now) n) (c.steps_of.ensures ∙ ap steps (step_is s))
 
 pub steps_of-requires : goal.steps_of-requires
 steps_of-requires c =
-    let k = (goal.at.steps_of-requires c).After-header_verdict in
-    let none = sym (front_is k) ∙ ap verdict_number c.in-Passed.is in
-    ap is_step (step_is k) ∙ (header_passes (s k).args.header none).step_passes
+    let s = (goal.at.steps_of-requires c).Start in
+    ap is_step (step_is s) ∙ (header_passes s.args.header (sym c.header_verdict.ensures ∙ ap verdict_number c.in_ok-header_verdict.was)).step_passes
 
-pub returns-in-Passed : goal.returns-in-Passed
-returns-in-Passed c =
-    let k = (goal.at.returns-in-Passed c).After-header_verdict in
-    let azimuths = (s k).args.azimuths.now in
-    joined (by_count k) (by_azimuth k ++ (by_air k ++ by_room k)) c.or_else-in-Passed-2.ensures
-    (check 20 c.unless-by_count.ensures (ap (eqb (length azimuths)) (c.steps_of.ensures ∙ ap steps (step_is k))))
-    (joined (by_azimuth k) (by_air k ++ by_room k) c.or_else-in-Passed.ensures (check 26 c.unless-by_azimuth.ensures c.are_azimuths.ensures)
-    (joined (by_air k) (by_room k) c.or_else.ensures (check 32 c.unless-by_air.ensures c.is_none.ensures)
-    (check 28 c.unless-by_room.ensures c.has_room.ensures)))
-    ∙ sym (passed_first (front k) (others k) (sym (front_is k) ∙ ap verdict_number c.in-Passed.is))
+pub returns-in_err-header_verdict : goal.returns-in_err-header_verdict
+returns-in_err-header_verdict c =
+    let g = goal.at.returns-in_err-header_verdict c in
+    exit c.from_residual.result c.in_err-header_verdict.field-0.0 c.from_residual.ensures
+    (refused_among (front g.Start) (others g.Start) c.in_err-header_verdict.was c.header_verdict.ensures)
 
-pub returns-in-Refused : goal.returns-in-Refused
-returns-in-Refused c =
-    let k = (goal.at.returns-in-Refused c).After-header_verdict in
-    let refusal = c.in-Refused.refusal in
-    sym (refused_first (front k) (others k) (sym (front_is k) ∙ ap verdict_number c.in-Refused.is) (never_none refusal))
+pub returns-in_err-unless : goal.returns-in_err-unless
+returns-in_err-unless c =
+    let g = goal.at.returns-in_err-unless c in
+    exit c.from_residual-in_err-unless.result c.in_err-unless.field-0.0 c.from_residual-in_err-unless.ensures
+    (passed_all (front g.Start) (others g.Start) c.in_ok-header_verdict.was c.header_verdict.ensures
+    (refused (after_count g.Start) c.in_err-unless.was (told_count g.After-unless)))
+
+pub returns-in_err-unless-2 : goal.returns-in_err-unless-2
+returns-in_err-unless-2 c =
+    let g = goal.at.returns-in_err-unless-2 c in
+    exit c.from_residual-in_err-unless-2.result c.in_err-unless-2.field-0.0 c.from_residual-in_err-unless-2.ensures
+    (passed_all (front g.Start) (others g.Start) c.in_ok-header_verdict.was c.header_verdict.ensures
+    (passed (after_count g.Start) c.in_ok-unless.was (told_count g.After-unless)
+    (refused (after_azimuth g.Start) c.in_err-unless-2.was (c.unless-2.ensures ∙ ap (λ (p : Bool). 26 unless p) c.are_azimuths.ensures))))
+
+pub returns-in_err-unless-3 : goal.returns-in_err-unless-3
+returns-in_err-unless-3 c =
+    let g = goal.at.returns-in_err-unless-3 c in
+    exit c.from_residual-in_err-unless-3.result c.in_err-unless-3.field-0.0 c.from_residual-in_err-unless-3.ensures
+    (passed_all (front g.Start) (others g.Start) c.in_ok-header_verdict.was c.header_verdict.ensures
+    (passed (after_count g.Start) c.in_ok-unless.was (told_count g.After-unless)
+    (passed (after_azimuth g.Start) c.in_ok-unless-2.was (c.unless-2.ensures ∙ ap (λ (p : Bool). 26 unless p) c.are_azimuths.ensures)
+    (refused (after_air g.Start) c.in_err-unless-3.was (c.unless-3.ensures ∙ ap (λ (p : Bool). 32 unless p) c.is_none.ensures)))))
+
+pub returns : goal.returns
+returns c =
+    let g = goal.at.returns c in
+    passed_all (front g.Start) (others g.Start) c.in_ok-header_verdict.was c.header_verdict.ensures
+    (passed (after_count g.Start) c.in_ok-unless.was (told_count g.After-unless)
+    (passed (after_azimuth g.Start) c.in_ok-unless-2.was (c.unless-2.ensures ∙ ap (λ (p : Bool). 26 unless p) c.are_azimuths.ensures)
+    (passed (after_air g.Start) c.in_ok-unless-3.was (c.unless-3.ensures ∙ ap (λ (p : Bool). 32 unless p) c.is_none.ensures)
+    (check 28 c.unless-4.ensures c.has_room.ensures))))
