@@ -1,7 +1,7 @@
 -- Lines of whole numbers with single spaces (01, "The argument sheet"). A line is the list of its ASCII bytes.
-use Rattle.std.specs.Prelude.{Bool, ◌&&◌, cond, false, true, List, [], ◌∷◌, ◌++◌, map, ℕ, ◌*◌, ◌+◌, ◌-◌, eqb, leb, ℤ, neg_ℤ, pos, drop, length, replicate, take}
+use Rattle.std.specs.Prelude.{Bool, ◌&&◌, cond, false, true, List, [], ◌∷◌, map, ℕ, ◌*◌, ◌+◌, ◌-◌, eqb, leb, ℤ, neg_ℤ, pos, drop, length, take}
 use Rattle.std.proofs.Math.Option.{Option, none, some}
-use Rattle.std.specs.Prelude.{Option as Found, Some, None}
+use Rattle.std.specs.Prelude.{Option as Found, MatchOption, Some, None, ◌≡◌}
 
 abbrev pub space : ℕ
 space = 32
@@ -77,7 +77,11 @@ begins [] line = true
 begins (byte ∷ rest) [] = false
 begins (byte ∷ rest) (first ∷ line) = eqb byte first && begins rest line
 
--- the numbers as they are handed back: with zeros in the entries that are left, and none where the line is another
+-- the numbers as they are handed back: none where the line is another
 unfoldable pub answer : Option (List ℤ) → Found (List ℤ)
 answer none = None
-answer (some list) = Some (list ++ replicate (12 - length list) (pos 0))
+answer (some list) = Some list
+
+-- the numbers stand in the places that were lent, or the line is another
+abbrev pub Filled : {A : Type 0} → Option (List ℤ) → List ℤ → Found A → Type 0
+Filled numbers places filled = MatchOption filled (numbers ≡ none) (λ _. numbers ≡ some places)

@@ -38,7 +38,8 @@ impl<const ROOM: usize> Buffer<ROOM> {
 
     pub fn push(&mut self, byte: u8)
         requires { length self.old < ROOM }
-        ensures { self.new ≡ self.old ++ byte ∷ [] }
+        ensures bytes { self.new ≡ self.old ++ byte ∷ [] }
+        ensures room { length self.new ≡ length self.old + 1 }
     {
         self.bytes[self.length] = byte;
         self.length += 1;
@@ -55,7 +56,8 @@ impl<const ROOM: usize> Buffer<ROOM> {
 
     pub fn extend_from_slice(&mut self, added: &[u8])
         requires { length self.old + length added.now ≤ ROOM }
-        ensures { self.new ≡ self.old ++ added.now }
+        ensures bytes { self.new ≡ self.old ++ added.now }
+        ensures room { length self.new ≡ length self.old + length added.now }
     {
         for byte in added {
             self.push(*byte);

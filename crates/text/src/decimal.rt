@@ -25,7 +25,8 @@ impl Buffer<TEXT_ROOM> {
     // A minus sign before the size of a number below zero.
     fn push_sign(&mut self, value: i64)
         requires { length self.old < text_room }
-        ensures { self.new ≡ self.old ++ sign value }
+        ensures bytes { self.new ≡ self.old ++ sign value }
+        ensures room { length self.new ≤ length self.old + 1 }
     {
         if value < 0 {
             self.push(b'-');
@@ -35,7 +36,8 @@ impl Buffer<TEXT_ROOM> {
     // Any number, also the least, has 20 bytes at most.
     pub fn push_number(&mut self, value: i64)
         requires { length self.old + 20 ≤ text_room }
-        ensures { self.new ≡ self.old ++ decimal value }
+        ensures bytes { self.new ≡ self.old ++ decimal value }
+        ensures room { length self.new ≤ length self.old + 20 }
     {
         self.push_sign(value);
         self.push_digits(value.unsigned_abs());
@@ -44,7 +46,8 @@ impl Buffer<TEXT_ROOM> {
     // So many digits, the last ones of a number.
     pub fn push_padded(&mut self, count: usize, size: u64)
         requires { length self.old + count ≤ text_room }
-        ensures { self.new ≡ self.old ++ padded count size }
+        ensures bytes { self.new ≡ self.old ++ padded count size }
+        ensures room { length self.new ≡ length self.old + count }
     {
         if count > 0 {
             self.push_padded(count - 1, size / 10);
@@ -55,7 +58,8 @@ impl Buffer<TEXT_ROOM> {
     // Units of 10⁻⁸ with eight decimals; any size has 12 digits before the point at most.
     pub fn push_units(&mut self, size: u64)
         requires { length self.old + 21 ≤ text_room }
-        ensures { self.new ≡ self.old ++ with_point size }
+        ensures bytes { self.new ≡ self.old ++ with_point size }
+        ensures room { length self.new ≤ length self.old + 21 }
     {
         self.push_digits(size / 100_000_000);
         self.push(b'.');
@@ -65,7 +69,8 @@ impl Buffer<TEXT_ROOM> {
     // The same with its sign.
     pub fn push_decimals(&mut self, value: i64)
         requires { length self.old + 22 ≤ text_room }
-        ensures { self.new ≡ self.old ++ decimals value }
+        ensures bytes { self.new ≡ self.old ++ decimals value }
+        ensures room { length self.new ≤ length self.old + 22 }
     {
         self.push_sign(value);
         self.push_units(value.unsigned_abs());

@@ -1,6 +1,6 @@
 // Lines of whole numbers with single spaces, read.
 ghost use Rattle.std.specs.Prelude.{true, ◌≡◌, ◌≤◌, length};
-ghost use Rattle.text.specs.Line.{all, answer, begins, is_digit, is_natural, is_number, line_numbers, natural, number, sheet_numbers, short_numbers, value};
+ghost use Rattle.text.specs.Line.{Filled, all, answer, begins, is_digit, is_natural, is_number, line_numbers, natural, sheet_numbers, short_numbers, value};
 
 fn are_digits(word: &[u8]) -> bool
     ensures { result ≡ all is_digit word.now }
@@ -55,21 +55,30 @@ pub fn begins(first: &[u8], line: &[u8]) -> bool
     line.starts_with(first)
 }
 
-// So many numbers, which are all of the line, with zeros in the entries that are left; nothing where the line is another.
-pub fn line_numbers(line: &[u8], count: usize, most: usize) -> Option<[i64; 12]>
-    requires { (count ≤ 12) × (most ≤ 10) }
-    ensures { result ≡ answer (line_numbers count most line.now) }
+// The numbers of a line into as many places; nothing where it is no line of so many numbers.
+fn fill(values: &mut [i64], line: &[u8], most: usize) -> Option<()>
+    requires { most ≤ 10 }
+    ensures { Filled (line_numbers (length values.old) most line.now) values.new result }
 {
-    let mut values = [0; 12];
     let mut found = 0;
     for word in line.split(|byte| *byte == b' ') {
-        if found == count || !is_number(word, most) {
+        if found == values.len() || !is_number(word, most) {
             return None;
         }
         values[found] = value(word);
         found += 1;
     }
-    if found < count { None } else { Some(values) }
+    if found < values.len() { None } else { Some(()) }
+}
+
+// The numbers of a line that has so many and nothing else.
+pub fn line_numbers<const COUNT: usize>(line: &[u8], most: usize) -> Option<[i64; COUNT]>
+    requires { most ≤ 10 }
+    ensures { result ≡ answer (line_numbers COUNT most line.now) }
+{
+    let mut values = [0; COUNT];
+    fill(&mut values, line, most)?;
+    Some(values)
 }
 
 // Whether the first words of a line, so many of them, are numbers of at most nine digits.
@@ -82,11 +91,11 @@ pub fn short_numbers(line: &[u8], count: usize) -> bool
 }
 
 // The nine numbers of a line of the sheet.
-pub fn sheet_numbers(line: &[u8]) -> Option<[i64; 12]>
+pub fn sheet_numbers(line: &[u8]) -> Option<[i64; 9]>
     ensures { result ≡ answer (sheet_numbers line.now) }
 {
     if line.len() > 80 {
         return None;
     }
-    line_numbers(line, 9, 9)
+    line_numbers(line, 9)
 }

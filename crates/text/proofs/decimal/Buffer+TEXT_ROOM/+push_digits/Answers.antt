@@ -24,10 +24,10 @@ pub returns : goal.returns
 returns t c =
     elim c.if-size-ge10.branch [
       | then-size-ge10 w ↦
-          c.push.ensures ∙ ap (λ (s : List ℕ). s ++ ((48 + c.args.size % 10) ∷ [])) (w.self-is ∙ w.push_digits.ensures)
+          c.push.ensures.bytes ∙ ap (λ (s : List ℕ). s ++ ((48 + c.args.size % 10) ∷ [])) (w.self-is ∙ w.push_digits.ensures)
           ∙ append_assoc c.args.self.now (digits (c.args.size / 10)) ((48 + c.args.size % 10) ∷ [])
           ∙ ap (λ (s : List ℕ). c.args.self.now ++ s) (sym (more_digits c.args.size w.if-size-ge10.true))
       | else-size-ge10 w ↦
-          c.push.ensures ∙ ap (λ (s : List ℕ). s ++ ((48 + c.args.size % 10) ∷ [])) w.self-is
+          c.push.ensures.bytes ∙ ap (λ (s : List ℕ). s ++ ((48 + c.args.size % 10) ∷ [])) w.self-is
           ∙ ap (λ (s : List ℕ). c.args.self.now ++ s) (sym (last_digit c.args.size w.if-size-ge10.false))
     ]

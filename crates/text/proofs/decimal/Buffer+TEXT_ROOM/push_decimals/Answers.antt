@@ -2,25 +2,18 @@
 use mathlib.Core.List.{List, ◌++◌}
 use mathlib.Core.Path.{◌∙◌, ◌≡◌, ap}
 use Prim.Native.Nat.{ℕ}
-use native.Mathlib.Omega.{arith}
 use lib.IntN.{nat_abs, ℤ}
-use lib.ListN.{length, length-append}
 use Rattle.numbers.proofs.Machine.{any}
 use Rattle.text.specs.Decimal.{sign, with_point}
-use Rattle.text.proofs.DecimalLaws.{sign_most, size_behind}
+use Rattle.text.proofs.DecimalLaws.{size_behind}
 use Rattle.text.proofs.decimal.Buffer+TEXT_ROOM.push_decimals.Goals as goal
 use Rattle.text.proofs.decimal.Buffer+TEXT_ROOM.push_decimals.Goals.{After-push_sign}
 
 signed_is : (c : After-push_sign) → c.push_sign.new.self ≡ c.args.self.now ++ sign c.args.value
-signed_is c = c.push_sign.ensures ∙ ap (λ (z : ℤ). c.args.self.now ++ sign z) (any c.ranges.value).same
+signed_is c = c.push_sign.ensures.bytes ∙ ap (λ (z : ℤ). c.args.self.now ++ sign z) (any c.ranges.value).same
 
-pub push_units-requires : goal.push_units-requires
-push_units-requires c =
+pub returns-clause-bytes : goal.returns-clause-bytes
+returns-clause-bytes c =
     let a = c.args in
-    omega (arith, ap length (signed_is (goal.at.push_units-requires c).After-push_sign), length-append a.self.now (sign a.value), sign_most a.value)
-
-pub returns : goal.returns
-returns c =
-    let a = c.args in
-    c.push_units.ensures ∙ ap (λ (s : List ℕ). s ++ with_point c.unsigned_abs.result) (signed_is (goal.at.returns c).After-push_sign)
+    c.push_units.ensures.bytes ∙ ap (λ (s : List ℕ). s ++ with_point c.unsigned_abs.result) (signed_is (goal.at.returns-clause-bytes c).After-push_sign)
     ∙ size_behind with_point a.self.now a.value c.unsigned_abs.result (c.unsigned_abs.ensures.value ∙ ap nat_abs (any c.ranges.value).same)

@@ -20,14 +20,16 @@ pub push-requires : goal.push-requires
 push-requires c = omega (arith, before_point (goal.at.push-requires c).After-push_digits)
 
 pub push_padded-requires : goal.push_padded-requires
-push_padded-requires c =
-    omega (arith, before_point (goal.at.push_padded-requires c).After-push_digits, ap length c.push.ensures, length-append c.push_digits.new.self (point ∷ []))
+push_padded-requires c = omega (arith, before_point (goal.at.push_padded-requires c).After-push_digits)
 
-pub returns : goal.returns
+pub returns-clause-bytes : goal.returns-clause-bytes
 unfolding with_point
-returns c =
+returns-clause-bytes c =
     let a = c.args in
     let whole = digits (a.size / 100_000_000) in
     let part = padded 8 a.size in
-    c.push_padded.ensures ∙ ap (λ (s : List ℕ). s ++ part) (c.push.ensures ∙ ap (λ (s : List ℕ). s ++ (point ∷ [])) c.push_digits.ensures)
+    c.push_padded.ensures.bytes ∙ ap (λ (s : List ℕ). s ++ part) (c.push.ensures.bytes ∙ ap (λ (s : List ℕ). s ++ (point ∷ [])) c.push_digits.ensures)
     ∙ append_assoc (a.self.now ++ whole) (point ∷ []) part ∙ append_assoc a.self.now whole (point ∷ part)
+
+pub returns-clause-room : goal.returns-clause-room
+returns-clause-room c = omega (arith, before_point (goal.at.returns-clause-room c).After-push_digits)
