@@ -1,47 +1,71 @@
 -- A line that begins with a body: where its numbers begin, what was read of them, and that a long line has none.
 use mathlib.Core.Bool.{Bool, cond, false, true}
-use mathlib.Core.List.{List, ◌++◌}
-use mathlib.Core.Option.{Option, none}
-use mathlib.Core.Path.{◌∙◌, ◌≡◌, ap, refl, subst, sym}
-use Prim.Native.Nat.{◌+◌, ◌<◌, ◌≤◌, ℕ}
+use mathlib.Core.List.{List}
+use mathlib.Core.Option.{Option, none, some}
+use mathlib.Core.Path.{◌≡◌, ap, refl, subst}
+use Prim.Native.Nat.{◌<◌, ◌≤◌, ℕ}
 use native.Mathlib.Omega.{arith}
-use lib.IntN.{pos, ℤ}
-use lib.ListN.{drop, length, length-drop, replicate}
+use lib.IntN.{ℤ}
+use lib.ListN.{drop, length, length-drop}
+use Rattle.std.specs.Prelude.{Err, None, Ok, Option as Found, Result, Some}
+use Rattle.calendar.specs.declared.refusal.Refusal.{Refusal}
+use Rattle.calendar.specs.declared.refusal.Refusal.TheVariants.{NotALine}
 use Rattle.text.proofs.LineLaws.{begins_within}
 use Rattle.text.proofs.WordLaws.{long_line}
 use Rattle.text.specs.Cases.{bytes}
-use Rattle.text.specs.Line.{begins, short_numbers}
+use Rattle.text.specs.Line.{answer, begins, short_numbers}
 use Rattle.sky_vectors.specs.declared.geocentric.Body.{Body}
 use Rattle.sky_vectors.specs.declared.geocentric.Body.TheVariants.{Moon, Sun}
-use Rattle.line_answers.specs.BodyLine.{body_line, body_numbers, by_body, longest_request, point_from}
-use Rattle.line_answers.specs.declared.body_line.BodyLine.{BodyLine}
-use Rattle.line_answers.specs.declared.body_line.BodyLine.TheVariants.{Of, Other}
-use Rattle.line_answers.proofs.SheetLaws.{padded_column}
+use Rattle.line_answers.specs.BodyLine.{asked, body_line, body_numbers, body_request, by_body, longest_request}
 
 -- where the numbers begin: within the line, and no later than behind `moon `
-abbrev At : List ℕ → BodyLine → Type 0
-At line (Of body start) = (start ≤ length line) × (start ≤ 5)
-At line Other = Unit
+abbrev At : List ℕ → Found (Body × ℕ) → Type 0
+At line (Some of) = (of.1 ≤ length line) × (of.1 ≤ 5)
+At line None = Unit {0}
 
 begins_at : (line : List ℕ) → At line (body_line line)
 unfolding body_line bytes
 begins_at line = go (begins (bytes "sun ") line) (begins (bytes "moon ") line) refl refl
   where
-    go : (sun moon : Bool) → begins (bytes "sun ") line ≡ sun → begins (bytes "moon ") line ≡ moon → At line (cond sun (Of Sun 4) (cond moon (Of Moon 5) Other))
+    go : (sun moon : Bool) → begins (bytes "sun ") line ≡ sun → begins (bytes "moon ") line ≡ moon → At line (cond sun (Some (Sun, 4)) (cond moon (Some (Moon, 5)) None))
     go true moon e f = (begins_within (bytes "sun ") line e, omega arith)
     go false true e f = (begins_within (bytes "moon ") line f, omega arith)
     go false false e f = tt
 
--- what a call of `body_line` told: where the numbers begin, and what is answered
-module _ (line : List ℕ) {found of : BodyLine} (called : found ≡ body_line line) (told : found ≡ of) where
-  is_of : body_line line ≡ of
-  is_of = sym called ∙ told
+pub start_within : (line : List ℕ) {body : Body} {start : ℕ} → body_line line ≡ Some (body, start) → start ≤ length line
+start_within line e = (subst (At line) e (begins_at line)).0
 
-  pub told_by_body : {A : Type 0} (rule : Body → List ℕ → A) (other : A) → by_body rule other of line ≡ by_body rule other (body_line line) line
-  told_by_body rule other = sym (ap (λ (of : BodyLine). by_body rule other of line) is_of)
+-- what was read of the numbers
+pub asked_none : (body : Body) (numbers : Option (List ℤ)) → None ≡ answer numbers → asked body numbers ≡ Err NotALine
+unfolding answer
+asked_none body none e = refl
+asked_none body (some list) e = absurd (cc)
 
-pub start_within : (line : List ℕ) {found : BodyLine} {body : Body} {start : ℕ} → found ≡ body_line line → found ≡ Of body start → start ≤ length line
-start_within line called told = (subst (At line) (is_of line called told) (begins_at line)).0
+pub asked_some : (body : Body) (numbers : Option (List ℤ)) {list : List ℤ} → Some list ≡ answer numbers → asked body numbers ≡ Ok (body, list)
+unfolding answer
+asked_some body none e = absurd (cc)
+asked_some body (some other) {list} e = let same : other ≡ list = cc in ap (λ (l : List ℤ). Ok (body, l)) same
+
+-- a line that was asked about, by the rule of a program
+abbrev pub to : {A : Type 0} → (Body → List ℤ → A) → (Refusal → A) → Result (Body × List ℤ) Refusal → A
+to rule refused (Ok of) = rule of.0 of.1
+to rule refused (Err refusal) = refused refusal
+
+module _ {A : Type 0} (rule : Body → List ℤ → A) (refused : Refusal → A) (given : Body → Option (List ℤ) → A)
+    (at_none : (body : Body) → given body none ≡ refused NotALine) (at_some : (body : Body) (list : List ℤ) → given body (some list) ≡ rule body list) where
+  numbers_are : (body : Body) (numbers : Option (List ℤ)) → given body numbers ≡ to rule refused (asked body numbers)
+  numbers_are body none = at_none body
+  numbers_are body (some list) = at_some body list
+
+  pub by_request : (short count : ℕ) (line : List ℕ)
+      → by_body (λ body words. given body (body_numbers short count words)) (refused NotALine) (body_line line) line ≡ to rule refused (body_request short count line)
+  unfolding body_request
+  by_request short count line = go (body_line line)
+    where
+      go : (of : Found (Body × ℕ)) → by_body (λ body words. given body (body_numbers short count words)) (refused NotALine) of line
+          ≡ to rule refused (by_body (λ body words. asked body (body_numbers short count words)) (Err NotALine) of line)
+      go None = refl
+      go (Some of) = numbers_are of.0 (body_numbers short count (drop of.1 line))
 
 -- a long line has no numbers
 pub long_numbers : (short count : ℕ) → count ≤ 12 → (words : List ℕ) → 143 < length words → body_numbers short count words ≡ none
@@ -56,11 +80,6 @@ module _ {A : Type 0} (rule : Body → List ℕ → A) (other : A) (long : (body
   pub too_long : (line : List ℕ) → longest_request < length line → by_body rule other (body_line line) line ≡ other
   too_long line h = go (body_line line) (begins_at line)
     where
-      go : (of : BodyLine) → At line of → by_body rule other of line ≡ other
-      go (Of body start) at = long body (drop start line) (omega (arith, length-drop start line, at.1))
-      go Other at = refl
-
-pub padded_point : (first : ℕ) (row : List ℤ) (n : ℕ) → point_from first (row ++ replicate n (pos 0)) ≡ point_from first row
-unfolding point_from
-padded_point first row n i =
-    record { longitude = padded_column row n first i; latitude = padded_column row n (first + 1) i; height = padded_column row n (first + 2) i }
+      go : (of : Found (Body × ℕ)) → At line of → by_body rule other of line ≡ other
+      go (Some of) at = long of.0 (drop of.1 line) (omega (arith, length-drop of.1 line, at.1))
+      go None at = refl

@@ -1,5 +1,5 @@
 -- A line of the program `places`: thirteen words with single spaces, the answer to it, and what is printed for it.
-use Rattle.std.specs.Prelude.{Bool, cond, List, [], ◌∷◌, ◌++◌, ℕ, ℤ}
+use Rattle.std.specs.Prelude.{Bool, cond, List, [], ◌∷◌, ◌++◌, ℕ, ℤ, None}
 use Rattle.std.proofs.Math.Option.{Option, none, some}
 use Rattle.text.specs.Cases.{bytes}
 use Rattle.text.specs.Decimal.{decimals}
@@ -8,7 +8,6 @@ use Rattle.sky.specs.Answer.{Answer, PlaceNumbers, nowhere, place}
 use Rattle.line_answers.specs.BodyLine.{body_line, body_numbers, by_body, point_from}
 use Rattle.line_answers.specs.Printed.{answer_line, newline}
 use Rattle.request.specs.Request.{start_from}
-use Rattle.refraction.specs.declared.air.Air.TheVariants as Airs
 use Rattle.sky_vectors.specs.declared.geocentric.Body.{Body}
 
 -- any other line is refused 16
@@ -18,7 +17,7 @@ no_request = record { refusal = 16; value = nowhere }
 -- the place without air, or the first of 1 to 9
 unfoldable pub place_from : Body → Option (List ℤ) → Answer PlaceNumbers
 place_from body none = no_request
-place_from body (some numbers) = place (start_from numbers) body (point_from 9 numbers) Airs.None
+place_from body (some numbers) = place (start_from numbers) body (point_from 9 numbers) None
 
 -- the sheet's nine numbers, of 1 to 9 digits, then longitude, latitude and height
 unfoldable pub body_answer : Body → List ℕ → Answer PlaceNumbers

@@ -1,5 +1,5 @@
 -- The argument sheet (01, the section of that name): the answer to a line, and what is printed for it.
-use Rattle.std.specs.Prelude.{List, [], ◌∷◌, ◌++◌, ℕ, ℤ, pos}
+use Rattle.std.specs.Prelude.{List, [], ◌∷◌, ◌++◌, ℕ, ℤ, pos, Result}
 use Rattle.std.proofs.Math.Option.{Option, none, some}
 use Rattle.sum_rules.specs.Moon.{argument}
 use Rattle.sum_rules.specs.MoonTerms.{L'}
@@ -7,14 +7,13 @@ use Rattle.sum_rules.specs.Sidereal.{mean}
 use Rattle.sum_rules.specs.declared.instant.Instant.{Instant}
 use Rattle.text.specs.Line.{sheet_numbers}
 use Rattle.text.specs.RoundTrip.{printed}
-use Rattle.calendar.specs.Refusal.{first, number}
-use Rattle.sky.specs.Answer.{Answer, judged}
+use Rattle.calendar.specs.declared.refusal.Refusal.{Refusal}
+use Rattle.calendar.specs.Refusal.{first}
+use Rattle.sky.specs.Answer.{Answer, answered, judged}
 use Rattle.request.specs.Request.{instant, start_from, start_refusals}
 use Rattle.request.specs.declared.start.Start.{Start}
 use Rattle.line_answers.specs.Printed.{answer_line, newline}
 use Rattle.line_answers.specs.declared.sheet.Arguments.{Arguments}
-use Rattle.line_answers.specs.declared.sheet.Row.{Row}
-use Rattle.line_answers.specs.declared.sheet.Row.TheVariants as Rows
 
 -- TT, L' and mean sidereal
 unfoldable pub arguments : Instant → Arguments
@@ -25,9 +24,8 @@ abbrev pub no_arguments : Arguments
 no_arguments = record { tt = pos 0; longitude = pos 0; sidereal = pos 0 }
 
 -- the answer in 01's numbers
-abbrev pub row_answer : Row → Answer Arguments
-row_answer (Rows.Accepted found) = record { refusal = 0; value = found }
-row_answer (Rows.Refused refusal) = record { refusal = number refusal; value = no_arguments }
+abbrev pub row_answer : Result Arguments Refusal → Answer Arguments
+row_answer = answered (λ found. found) no_arguments
 
 -- the first of 1 to 6, otherwise the arguments
 unfoldable pub start_row : Start → Answer Arguments

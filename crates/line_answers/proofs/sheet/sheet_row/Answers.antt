@@ -1,25 +1,22 @@
 -- `line_answers::sheet::sheet_row` meets its contract.
 use mathlib.Core.Path.{◌∙◌, ap, sym}
-use borrow.Author.Tests.{not-false, not-true}
+use Rattle.std.specs.Prelude.{Err}
+use Rattle.calendar.proofs.RefusalLaws.{handed_up}
+use Rattle.calendar.specs.declared.refusal.Refusal.TheVariants.{NotALine}
 use Rattle.text.specs.Line.{sheet_numbers}
-use Rattle.text.specs.declared.line.Numbers.{Numbers}
+use Rattle.line_answers.proofs.PrintedLaws.{none_found, was_found}
 use Rattle.line_answers.proofs.SheetLaws.{not_read, one_row, was_read}
-use Rattle.request.specs.Request.{start_from}
-use Rattle.line_answers.specs.Sheet.{sheet_row, start_row}
+use Rattle.line_answers.specs.Sheet.{row_answer, sheet_row, start_row}
 use Rattle.line_answers.proofs.sheet.sheet_row.Goals as goal
 
-pub returns-then-not-numbers : goal.returns-then-not-numbers
+pub returns-in_err-numbers : goal.returns-in_err-numbers
 unfolding sheet_row
-returns-then-not-numbers c =
-    let k = c.sheet_numbers-numbers in
-    let line = c.args.line.now in
-    one_row (not_read (sheet_numbers line) (sym (ap (λ (n : Numbers). n.read) k.ensures) ∙ not-true k.result.read c.if-not-numbers.true))
+returns-in_err-numbers c =
+    let none = none_found c.sheet_numbers.result NotALine c.in_err-numbers.ensures.value in
+    one_row (ap row_answer (handed_up c.from_residual.ensures ∙ ap Err none.1) ∙ not_read (sheet_numbers c.args.line.now) (sym none.0 ∙ c.sheet_numbers.ensures))
 
 pub returns : goal.returns
 unfolding sheet_row
 returns c =
-    let k = c.sheet_numbers-numbers in
-    let line = c.args.line.now in
-    let start = c.start_from.ensures ∙ ap (λ (n : Numbers). start_from n.values) k.ensures in
-    let row = was_read (sheet_numbers line) (sym (ap (λ (n : Numbers). n.read) k.ensures) ∙ not-false k.result.read c.if-not-numbers.false) in
-    one_row (c.start_row.ensures.equal ∙ ap start_row start ∙ row)
+    let read = sym (was_found c.sheet_numbers.result NotALine c.in_ok-numbers.ensures.value) ∙ c.sheet_numbers.ensures in
+    one_row (c.start_row.ensures.equal ∙ ap start_row c.from.ensures ∙ was_read (sheet_numbers c.args.line.now) read)
