@@ -7,7 +7,7 @@ use super::limbs::Limbs;
 use super::turning::turned_angle;
 use numbers::angle::Angle;
 
-// No direction, where one number has to say so.
+// No direction, where one number has to say so: to C, and in the entries of a batch.
 pub const MARK: i64 = 9_223_372_036_854_775_807;
 
 // At most 2⁴⁰ on either side of zero, as every number of the sky is.
@@ -42,7 +42,7 @@ pub fn arctangent(y: i64, x: i64) -> Option<Angle>
     Some(angle_of(y, x))
 }
 
-// The angle of a direction, or a number for none.
+// The angle of a direction, or a number for none. `Reduced` stays a clause: specs/ builds angles of any number, and its theorems speak of each.
 pub fn angle_or(none: i64, direction: Option<Angle>) -> i64
     requires { Reduced direction }
     ensures { result ≡ angle_or none direction }

@@ -25,7 +25,7 @@ fn reduced(x: i64) -> Result<u64, Refusal>
     }
 }
 
-// The arc from a to b, clockwise.
+// The arc from a to b, clockwise. Azimuths stay plain numbers here and in turning_points, as C lends them; one test, `is_reduced`, stands before all.
 #[tactic(auto, unfolding(crate::specs::Heading::clockwise))]
 pub fn clockwise(a: u64, b: u64) -> u64
     requires { (a < full_turn) × (b < full_turn) }

@@ -12,7 +12,7 @@ pub struct Air {
     pub temperature: f64,
 }
 
-// A NaN is between nothing.
+// A NaN is between nothing. For whole numbers numbers::whole has this line, with the rule of their order.
 fn is_between(lo: f64, x: f64, hi: f64) -> bool
     ensures { result ≡ between_doubles lo x hi }
 {
