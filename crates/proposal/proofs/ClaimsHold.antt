@@ -7,8 +7,8 @@ use native.Mathlib.Decide.{dec_lt}
 use native.Mathlib.Omega.{arith}
 use lib.IntN.{ℤ}
 use borrow.Author.Tests.{le-ltb, ltb-false}
-use Rattle.arctangent.specs.declared.direction.Direction.{Direction}
-use Rattle.arctangent.specs.declared.direction.Direction.TheVariants.{None, Towards}
+use Rattle.arctangent.specs.Direction.{Direction}
+use Rattle.std.specs.Prelude.{None, Some}
 use Rattle.calendar.proofs.RefusalLaws.{none_append}
 use Rattle.day.proofs.SearchLaws.{clash}
 use Rattle.day.specs.Curve.{azimuth_on, minutes}
@@ -24,13 +24,13 @@ use Rattle.proposal.specs.Verdict.{JudgementAnswer, first_out, is_out, judgement
 use Rattle.proposal.proofs.VerdictLaws.{Unrefused, accepted_when, all_passed, before_31_below, fails_before, holds_there, out_most, unrefused}
 
 -- ---- out of tolerance, and within it
-inside : (tolerance : ℕ) (worked : Direction) (value : ℕ) → is_out tolerance worked value ≡ false → (angle : Angle) → worked ≡ Towards angle → distance value angle.units ≤ tolerance
+inside : (tolerance : ℕ) (worked : Direction) (value : ℕ) → is_out tolerance worked value ≡ false → (angle : Angle) → worked ≡ Some angle → distance value angle.units ≤ tolerance
 unfolding is_out
 inside tolerance worked value e angle is = ltb-false tolerance (distance value angle.units) (ap (λ (d : Direction). is_out tolerance d value) (sym is) ∙ e)
 
-not_out : (tolerance : ℕ) (worked : Direction) (value : ℕ) → ((angle : Angle) → worked ≡ Towards angle → distance value angle.units ≤ tolerance) → is_out tolerance worked value ≡ false
+not_out : (tolerance : ℕ) (worked : Direction) (value : ℕ) → ((angle : Angle) → worked ≡ Some angle → distance value angle.units ≤ tolerance) → is_out tolerance worked value ≡ false
 unfolding is_out
-not_out tolerance (Towards angle) value f = le-ltb tolerance (distance value angle.units) (f angle refl)
+not_out tolerance (Some angle) value f = le-ltb tolerance (distance value angle.units) (f angle refl)
 not_out tolerance None value f = refl
 
 module _ (tolerance : ℕ) (worked : ℕ → Direction) (list : List ℕ) (azimuths : List ℤ) (m : ℕ) where

@@ -10,9 +10,10 @@ use lib.IntN.{nat_abs, pos, ℤ}
 use lib.Signed.{le_z}
 use borrow.Author.Tests.{eq-eqb, eqb-true, ne_eqb}
 use Rattle.arithmetic.specs.Each.{Each, more, none as no_more}
-use Rattle.arctangent.specs.declared.direction.Direction.{Direction}
+use Rattle.arctangent.specs.Direction.{Direction}
 use Rattle.calendar.proofs.RefusalLaws.{first_append, first_one, never_none, never_out, none, none_append, numbered, one_answer, passed_first, passes, read_back}
 use Rattle.calendar.specs.Refusal.{OneAnswer, ◌else◌, ◌unless◌, first, number}
+use Rattle.calendar.specs.declared.refusal.Refusal.{Refusal}
 use Rattle.day.proofs.SearchLaws.{before, is_first, most, there}
 use Rattle.day.specs.Curve.{azimuth_on, minutes}
 use Rattle.day.specs.Date.{day_refusals}
@@ -27,20 +28,22 @@ use Rattle.sky_vectors.specs.declared.station.Point.{Point}
 use Rattle.turning_points.proofs.SearchLaws.{by_cases}
 use Rattle.turning_points.specs.Points.{are_turned, is_formed}
 use Rattle.proposal.specs.Verdict.{JudgementAnswer, first_out, form_refusals, judgement, judgement_answer, out_at, proposal_refusals}
-use Rattle.proposal.specs.declared.judge.Judgement.{Judgement}
-use Rattle.proposal.specs.declared.judge.Judgement.TheVariants.{Accepted, Out, Refused}
+use Rattle.std.specs.Prelude.{Err, Ok, Result, ⊤}
+use Rattle.proposal.specs.declared.judge.Objection.{Objection}
+use Rattle.proposal.specs.declared.judge.Objection.TheVariants.{Out, Refused}
 
 -- ---- one answer and no other: each is read back from its numbers
-from_numbers : JudgementAnswer → Judgement
-from_numbers a = cond (eqb a.refusal 0) Accepted (cond (eqb a.refusal 31) (Out a.minute) (Refused (numbered a.refusal)))
+from_numbers : JudgementAnswer → Result ⊤ Objection
+from_numbers a = cond (eqb a.refusal 0) (Ok tt) (cond (eqb a.refusal 31) (Err (Out a.minute)) (Err (Refused (numbered a.refusal))))
 
-read_judgement : (x : Judgement) → from_numbers (judgement_answer x) ≡ x
+read_judgement : (x : Result ⊤ Objection) → from_numbers (judgement_answer x) ≡ x
 unfolding from_numbers
-read_judgement Accepted = refl
-read_judgement (Out minute) = refl
-read_judgement (Refused refusal) = rw (ne_eqb (number refusal) 0 (never_none refusal), ne_eqb (number refusal) 31 (never_out refusal)) (ap Refused (read_back refusal))
+read_judgement (Ok tt) = refl
+read_judgement (Err (Out minute)) = refl
+read_judgement (Err (Refused refusal)) =
+    rw (ne_eqb (number refusal) 0 (never_none refusal), ne_eqb (number refusal) 31 (never_out refusal)) (ap (λ (r : Refusal). Err (Refused r)) (read_back refusal))
 
-pub one_judgement : {found : Judgement} {rule : JudgementAnswer} → judgement_answer found ≡ rule → OneAnswer judgement_answer rule found
+pub one_judgement : {found : Result ⊤ Objection} {rule : JudgementAnswer} → judgement_answer found ≡ rule → OneAnswer judgement_answer rule found
 one_judgement = one_answer (λ x y same. sym (read_judgement x) ∙ ap from_numbers same ∙ read_judgement y)
 
 -- ---- 29 and 30

@@ -1,7 +1,6 @@
 -- What a reader wants to know of a verdict (02, Item 7), beside the equations.
-use Rattle.std.specs.Prelude.{List, ◌↔◌, ◌≡◌, ◌<◌, ◌≤◌, ℕ, ℤ}
-use Rattle.arctangent.specs.declared.direction.Direction.{Direction}
-use Rattle.arctangent.specs.declared.direction.Direction.TheVariants.{Towards}
+use Rattle.std.specs.Prelude.{List, Some, ◌↔◌, ◌≡◌, ◌<◌, ◌≤◌, ℕ, ℤ}
+use Rattle.arctangent.specs.Direction.{Direction}
 use Rattle.calendar.specs.Refusal.{first}
 use Rattle.day.specs.Curve.{azimuth_on, minutes}
 use Rattle.day.specs.Date.{day_refusals}
@@ -15,7 +14,7 @@ use Rattle.proposal.specs.Verdict.{judgement, value_at}
 
 -- a minute's value is within the tolerance, the short way round, of the azimuth worked for it, where there is one
 abbrev pub Within : ℕ → (ℕ → Direction) → List ℕ → List ℤ → ℕ → Type 0
-Within tolerance worked list azimuths m = (angle : Angle) → worked m ≡ Towards angle → distance (value_at list azimuths m) angle.units ≤ tolerance
+Within tolerance worked list azimuths m = (angle : Angle) → worked m ≡ Some angle → distance (value_at list azimuths m) angle.units ≤ tolerance
 
 -- THE TWO CLAIMS, of every request and every two lists
 module _ (date : Date) (body : Body) (point : Point) (tolerance : ℕ) (list : List ℕ) (azimuths : List ℤ) where

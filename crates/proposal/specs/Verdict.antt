@@ -1,7 +1,6 @@
 -- The watch's verdict (02, Item 7: "accepts a well-formed proposal exactly when every minute's value is within the tolerance sent .. of the azimuth worked for it").
-use Rattle.std.specs.Prelude.{Bool, cond, false, List, [], ◌++◌, ◌∷◌, ◌+◌, ◌-◌, ℕ, eqb, leb, ltb, ℤ, length}
-use Rattle.arctangent.specs.declared.direction.Direction.{Direction}
-use Rattle.arctangent.specs.declared.direction.Direction.TheVariants.{None, Towards}
+use Rattle.std.specs.Prelude.{Bool, Err, None, Ok, Option, Result, Some, ⊤, ◌≡◌, ◌<◌, cond, false, List, [], ◌++◌, ◌∷◌, ◌+◌, ◌-◌, ℕ, eqb, leb, ltb, ℤ, length}
+use Rattle.arctangent.specs.Direction.{Direction}
 use Rattle.calendar.specs.Refusal.{◌unless◌, first, number}
 use Rattle.day.specs.Curve.{azimuth_on, minutes}
 use Rattle.day.specs.Date.{day_refusals}
@@ -11,8 +10,8 @@ use Rattle.sky_vectors.specs.declared.geocentric.Body.{Body}
 use Rattle.sky_vectors.specs.declared.station.Point.{Point}
 use Rattle.turning_points.specs.Arc.{distance, value_on}
 use Rattle.turning_points.specs.Points.{are_turned, at, is_formed, leg_at}
-use Rattle.proposal.specs.declared.judge.Judgement.{Judgement}
-use Rattle.proposal.specs.declared.judge.Judgement.TheVariants.{Accepted, Out, Refused}
+use Rattle.proposal.specs.declared.judge.Objection.{Objection}
+use Rattle.proposal.specs.declared.judge.Objection.TheVariants.{Out, Refused}
 
 -- ---- every minute's value
 
@@ -27,7 +26,7 @@ value_at list azimuths m = value_on (leg_at list azimuths (leg_of list m)) m
 
 -- a minute without one isn't compared
 unfoldable pub is_out : ℕ → Direction → ℕ → Bool
-is_out tolerance (Towards angle) value = ltb tolerance (distance value angle.units)
+is_out tolerance (Some angle) value = ltb tolerance (distance value angle.units)
 is_out tolerance None value = false
 
 -- over a day by its minutes
@@ -38,6 +37,11 @@ module _ (tolerance : ℕ) (worked : ℕ → Direction) (list : List ℕ) (azimu
   -- the first minute out of tolerance, or 1440 where there is none
   unfoldable pub first_out : ℕ
   first_out = first_where out_at minutes
+
+  -- the same as an answer: the minute, or none
+  abbrev pub IsFirstOut : Option ℕ → Type 0
+  IsFirstOut (Some minute) = (minute ≡ first_out) × (minute < minutes)
+  IsFirstOut None = first_out ≡ minutes
 
 -- ---- the refusals, in this order
 
@@ -54,10 +58,10 @@ pub record JudgementAnswer : Type 0 where
   pub refusal : ℕ
   pub minute : ℕ
 
-abbrev pub judgement_answer : Judgement → JudgementAnswer
-judgement_answer Accepted = record { refusal = 0; minute = 0 }
-judgement_answer (Refused refusal) = record { refusal = number refusal; minute = 0 }
-judgement_answer (Out minute) = record { refusal = 31; minute = minute }
+abbrev pub judgement_answer : Result ⊤ Objection → JudgementAnswer
+judgement_answer (Ok _) = record { refusal = 0; minute = 0 }
+judgement_answer (Err (Refused refusal)) = record { refusal = number refusal; minute = 0 }
+judgement_answer (Err (Out minute)) = record { refusal = 31; minute = minute }
 
 -- after 1 to 3 and 5 to 9; 31 with the first one
 unfoldable pub judgement : Date → Body → Point → ℕ → List ℕ → List ℤ → JudgementAnswer

@@ -1,76 +1,77 @@
 -- `judge::judge` meets its contract.
-use mathlib.Core.List.{List, ◌++◌}
+use mathlib.Core.List.{◌++◌}
 use mathlib.Core.Path.{◌∙◌, ◌≡◌, ap, sym}
 use Prim.Native.Nat.{ℕ}
 use native.Mathlib.Omega.{arith}
-use borrow.Author.Rules.{rules}
+use Rattle.std.proofs.lemmas.Result.{err_from_is_err_and}
+use Rattle.std.specs.Prelude.{Err, IsErr, IsErrAnd, Result, ⊤}
+use Rattle.arctangent.specs.Direction.{Direction}
 use Rattle.calendar.proofs.RefusalLaws.{never_none, never_out, none_append}
-use Rattle.calendar.specs.Refusal.{first, verdict_number}
-use Rattle.day.specs.Curve.{azimuth_on}
-use Rattle.day.specs.Date.{day_refusals}
+use Rattle.calendar.specs.Refusal.{first}
+use Rattle.calendar.specs.declared.refusal.Refusal.{Refusal}
 use Rattle.day.proofs.Demand3.{every_day_near}
-use Rattle.proposal.specs.Verdict.{form_refusals}
-use Rattle.proposal.proofs.VerdictLaws.{accepted_is, formed_passes, one_judgement, out_is, out_most, refused_is}
+use Rattle.day.specs.Curve.{azimuth_from, azimuth_on}
+use Rattle.day.specs.Date.{day_refusals}
+use Rattle.sky_vectors.specs.Place.{place_at}
+use Rattle.proposal.specs.Verdict.{first_out, form_refusals, judgement_answer}
+use Rattle.proposal.specs.declared.judge.Objection.{Objection}
+use Rattle.proposal.specs.declared.judge.Objection.TheVariants.{Refused}
+use Rattle.proposal.proofs.VerdictLaws.{accepted_is, formed_passes, one_judgement, out_is, refused_is}
 use Rattle.proposal.proofs.judge.judge.Goals as goal
-use Rattle.proposal.proofs.judge.judge.Goals.{After-verdict_before, In-Passed, Start}
+use Rattle.proposal.proofs.judge.judge.Goals.{After-new-course, In_ok-verdict_before}
 
--- the verdict
-module _ (v : After-verdict_before) where
-  abbrev s : Start
-  s = (goal.at.After-verdict_before v).Start
+-- a request that no check before 31 refuses
+module _ (c : In_ok-verdict_before) where
+  passed : first (day_refusals c.args.date c.args.point ++ form_refusals c.args.points.minutes.now c.args.points.azimuths.now) ≡ 0
+  passed = sym c.in_ok-verdict_before.ensures
 
-  abbrev lists : List ℕ
-  lists = day_refusals s.args.date s.args.point ++ form_refusals s.args.minutes.now s.args.azimuths.now
+  abbrev parts : (first (day_refusals c.args.date c.args.point) ≡ 0) × (first (form_refusals c.args.points.minutes.now c.args.points.azimuths.now) ≡ 0)
+  parts = none_append (day_refusals c.args.date c.args.point) (form_refusals c.args.points.minutes.now c.args.points.azimuths.now) passed
 
--- where it passed
-module _ (told : In-Passed) where
-  abbrev v : After-verdict_before
-  v = (goal.at.In-Passed told).After-verdict_before
+-- what the exit of the `?` hands up
+exit : {r : Result ⊤ Objection} (refusal : Refusal) → IsErr r × IsErrAnd r (λ other. other ≡ Refused refusal) → r ≡ Err (Refused refusal)
+exit {r} refusal h = let p = err_from_is_err_and r h.1 in p.1 ∙ ap Err p.2
 
-  passed : first (lists v) ≡ 0
-  passed = sym v.verdict_before.ensures ∙ ap verdict_number told.in-Passed.is
+-- the azimuths of the course are the day's
+sky_is : (c : After-new-course) → azimuth_from c.new-course.result.body c.new-course.result.runner c.new-course.result.date c.new-course.result.days ≡ azimuth_on c.args.date c.args.body c.args.point
+unfolding place_at
+sky_is c = let begun = c.new-course.ensures in λ i. azimuth_from (begun.body_is i) (begun.runner_is i) (begun.date_is i) (begun.days_is i)
 
-  abbrev parts : (first (day_refusals (s v).args.date (s v).args.point) ≡ 0) × (first (form_refusals (s v).args.minutes.now (s v).args.azimuths.now) ≡ 0)
-  parts = none_append (day_refusals (s v).args.date (s v).args.point) (form_refusals (s v).args.minutes.now (s v).args.azimuths.now) passed
+pub returns-in_err-verdict_before-clause-one_answer : goal.returns-in_err-verdict_before-clause-one_answer
+returns-in_err-verdict_before-clause-one_answer c =
+    let a = c.args in
+    let refusal = c.in_err-verdict_before.field-0.0 in
+    one_judgement (ap judgement_answer (exit refusal c.from_residual.ensures)
+    ∙ sym (refused_is a.date a.body a.point a.tolerance a.points.minutes.now a.points.azimuths.now (sym c.in_err-verdict_before.ensures) (never_none refusal) (never_out refusal)))
 
-pub enum_told-1 : goal.enum_told-1
-enum_told-1 c = search rules
+pub returns-in_err-verdict_before-clause-day_near : goal.returns-in_err-verdict_before-clause-day_near
+returns-in_err-verdict_before-clause-day_near c = every_day_near c.args.date c.args.point
 
-pub work-out-requires : goal.work-out-requires
-work-out-requires c =
-    let told = (goal.at.work-out-requires c).In-Passed in
-    let a = (s (v told)).args in record {
-      table_value = (c.table.ensures, (parts told).0);
-      azimuths_value = formed_passes a.minutes.now a.azimuths.now (parts told).1;
-    }
+pub new-course-requires : goal.new-course-requires
+new-course-requires c = (parts (goal.at.new-course-requires c).In_ok-verdict_before).0
 
-pub returns-then-is_found : goal.returns-then-is_found
-returns-then-is_found c =
-    let told = (goal.at.returns-then-is_found c).In-Passed in
-    let a = (s (v told)).args in
-    let is = c.work-out.ensures in record {
-      one_answer = one_judgement
-          ((λ i. record { refusal = 31; minute = is i })
-          ∙ sym (out_is a.date a.body a.point a.tolerance a.minutes.now a.azimuths.now (passed told) (omega (arith, is, c.if-is_found.true))));
-      day_near = every_day_near a.date a.point;
-    }
+pub first_out-requires : goal.first_out-requires
+first_out-requires c = formed_passes c.args.points.minutes.now c.args.points.azimuths.now (parts (goal.at.first_out-requires c).In_ok-verdict_before).1
 
-pub returns-else-is_found : goal.returns-else-is_found
-returns-else-is_found c =
-    let told = (goal.at.returns-else-is_found c).In-Passed in
-    let a = (s (v told)).args in
-    let most = out_most a.tolerance (azimuth_on a.date a.body a.point) a.minutes.now a.azimuths.now in record {
-      one_answer = one_judgement
-          (sym (accepted_is a.date a.body a.point a.tolerance a.minutes.now a.azimuths.now (passed told) (omega (arith, c.work-out.ensures, c.if-is_found.false, most))));
-      day_near = every_day_near a.date a.point;
-    }
+pub returns-in-Some-clause-one_answer : goal.returns-in-Some-clause-one_answer
+returns-in-Some-clause-one_answer c =
+    let a = c.args in
+    let list = a.points.minutes.now in
+    let azimuths = a.points.azimuths.now in
+    let is = c.in-Some.ensures.0 ∙ ap (λ (sky : ℕ → Direction). first_out a.tolerance sky list azimuths) (sky_is (goal.at.returns-in-Some-clause-one_answer c).After-new-course) in
+    one_judgement ((λ i. record { refusal = 31; minute = is i })
+    ∙ sym (out_is a.date a.body a.point a.tolerance list azimuths (passed (goal.at.returns-in-Some-clause-one_answer c).In_ok-verdict_before) (omega (arith, is, c.in-Some.ensures.1))))
 
-pub returns-in-Refused : goal.returns-in-Refused
-returns-in-Refused c =
-    let before = (goal.at.returns-in-Refused c).After-verdict_before in
-    let a = (s before).args in
-    let refusal = c.in-Refused.refusal in
-    let is = sym before.verdict_before.ensures ∙ ap verdict_number c.in-Refused.is in record {
-      one_answer = one_judgement (sym (refused_is a.date a.body a.point a.tolerance a.minutes.now a.azimuths.now is (never_none refusal) (never_out refusal)));
-      day_near = every_day_near a.date a.point;
-    }
+pub returns-in-Some-clause-day_near : goal.returns-in-Some-clause-day_near
+returns-in-Some-clause-day_near c = every_day_near c.args.date c.args.point
+
+pub returns-in-None-clause-one_answer : goal.returns-in-None-clause-one_answer
+returns-in-None-clause-one_answer c =
+    let a = c.args in
+    let list = a.points.minutes.now in
+    let azimuths = a.points.azimuths.now in
+    let all = sym (ap (λ (sky : ℕ → Direction). first_out a.tolerance sky list azimuths) (sky_is (goal.at.returns-in-None-clause-one_answer c).After-new-course)) ∙ c.in-None.ensures in
+    one_judgement (sym (accepted_is a.date a.body a.point a.tolerance list azimuths (passed (goal.at.returns-in-None-clause-one_answer c).In_ok-verdict_before) all))
+
+pub returns-in-None-clause-day_near : goal.returns-in-None-clause-day_near
+returns-in-None-clause-day_near c = every_day_near c.args.date c.args.point
