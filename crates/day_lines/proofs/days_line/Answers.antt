@@ -1,22 +1,12 @@
 -- `day_lines::days_line` meets its contract.
-use mathlib.Core.Path.{◌∙◌, ap, sym}
-use Rattle.line_answers.proofs.PrintedLaws.{refused_line, value_line}
-use Rattle.rise_set.specs.Answer.{neither, rise_set_answer}
+use mathlib.Core.Path.{◌∙◌, ap}
+use Rattle.rise_set.specs.Answer.{neither, rise_set_numbers}
+use Rattle.line_answers.proofs.PrintedLaws.{printed}
 use Rattle.day_lines.specs.DaysLine.{days_line, rise_set_line}
+use Rattle.line_answers.specs.Printed.{answer_line}
 use Rattle.day_lines.proofs.days_line.Goals as goal
 
-pub returns-in-Seen : goal.returns-in-Seen
+pub returns : goal.returns
 unfolding days_line
-returns-in-Seen c =
-    let is = sym (ap rise_set_answer c.in-Seen.is) ∙ c.days_answer.ensures.equal in record {
-      result_value = c.rise_set_text.ensures.result_value ∙ value_line rise_set_line is;
-      length_le_text_room = c.rise_set_text.ensures.length_le_text_room;
-    }
-
-pub returns-in-Refused : goal.returns-in-Refused
-unfolding days_line
-returns-in-Refused c =
-    let is = sym (ap rise_set_answer c.in-Refused.is) ∙ c.days_answer.ensures.equal in record {
-      result_value = c.refusal_text.ensures.result_value ∙ refused_line rise_set_line c.in-Refused.refusal neither is;
-      length_le_text_room = c.refusal_text.ensures.length_le_text_room;
-    }
+returns c =
+    printed rise_set_numbers neither rise_set_line c.days_answer.result c.map_or_else.result c.map_or_else.ensures ∙ ap (answer_line rise_set_line) c.days_answer.ensures.equal
