@@ -14,10 +14,10 @@ const CODES: &str = "crates/boundary/specs/Codes.antt";
 const FAMILIES: [(&str, &str); 3] =
     [("number Of.", ""), ("strip_number Strips.", "STRIP_"), ("proposal_number Proposals.", "PROPOSAL_")];
 
-// The two that carry a number are cases of their answers.
+// The two that carry a number are cases of their answers' own errors.
 const CARRYING: [(&str, &str, &str); 2] = [
-    ("crates/batch/specs/Batch.antt", "batch_answer (Late i) = record { refusal = ", "TOO_LATE"),
-    ("crates/proposal/specs/Verdict.antt", "judgement_answer (Out minute) = record { refusal = ", "PROPOSAL_OUT"),
+    ("crates/batch/specs/Batch.antt", "batch_answer (Err (Late i)) = record { refusal = ", "TOO_LATE"),
+    ("crates/proposal/specs/Verdict.antt", "judgement_answer (Err (Out minute)) = record { refusal = ", "PROPOSAL_OUT"),
 ];
 
 // Where our own numbers begin; the papers' stay below.

@@ -67,15 +67,15 @@ fn numbers(fields: &[String]) -> Vec<i64> {
     fields.iter().map(|field| number(field)).collect()
 }
 
-// What stands between `const NAME: .. =` and its semicolon; the type may hold a semicolon of its own.
+// What stands between `const NAME: .. =`, or `static NAME: .. =`, and its semicolon; the type may hold a semicolon of its own.
 fn constant(file: &str, name: &str) -> String {
     let path = CODE.map(|folder| format!("{folder}/{file}")).into_iter().find(|path| Path::new(path).exists());
     let text = read(path.unwrap_or_else(|| fail(format!("no folder of {CODE:?} has {file}"))));
-    let heads: Vec<_> = text.match_indices(&format!("const {name}: ")).collect();
+    let heads: Vec<_> = ["const", "static"].iter().flat_map(|word| text.match_indices(&format!("{word} {name}: ")).map(|head| head.0).collect::<Vec<_>>()).collect();
     if heads.len() != 1 {
-        fail(format!("{file} has {} constants {name}", heads.len()));
+        fail(format!("{file} has {} constants and statics {name}", heads.len()));
     }
-    let after = &text[heads[0].0..];
+    let after = &text[heads[0]..];
     let value = after.split_once(" = ").and_then(|(_, value)| value.split_once(';'));
     value.unwrap_or_else(|| fail(format!("{file}: {name} has no end"))).0.trim().to_string()
 }
