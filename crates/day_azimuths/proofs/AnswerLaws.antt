@@ -1,19 +1,21 @@
 -- The answer: one and no other, what its checks say where they pass, what is left in the buffer, and demand 3.
 use mathlib.Core.Bool.{true}
 use mathlib.Core.List.{List, [], ◌++◌, ◌∷◌}
-use mathlib.Core.Path.{◌∙◌, ◌≡◌, refl, sym}
+use mathlib.Core.Path.{◌∙◌, ◌≡◌, sym}
 use Prim.Native.Nat.{◌*◌, ◌≤◌, ℕ}
 use lib.Dec.{leb}
 use lib.IntN.{nat_abs, ℤ}
 use lib.ListN.{drop, length}
 use borrow.Author.Tests.{leb-true, ne_eqb}
 use Rattle.calendar.proofs.RefusalLaws.{none, none_append, passes}
+use Rattle.std.specs.Prelude.{Result}
+use Rattle.calendar.specs.declared.refusal.Refusal.{Refusal}
 use Rattle.calendar.specs.Refusal.{OneAnswer, ◌unless◌, first}
 use Rattle.day.proofs.DateLaws.{accepted_day, minute_reachable}
 use Rattle.day.specs.Curve.{minute_of}
 use Rattle.day.specs.Date.{day_refusals, days}
 use Rattle.day.specs.declared.date.Date.{Date}
-use Rattle.sky.proofs.AnswerLaws.{from_answer, judged_refusal, one_from, refused_back}
+use Rattle.sky.proofs.AnswerLaws.{judged_refusal, one_answered}
 use Rattle.sky.specs.Answer.{Answer}
 use Rattle.sky_vectors.specs.declared.geocentric.Body.{Body}
 use Rattle.sky_vectors.specs.declared.station.Point.{Point}
@@ -22,17 +24,11 @@ use Rattle.sum_rules.proofs.Accurate.{sums_near}
 use Rattle.day_azimuths.specs.Answer.{azimuths_answer, azimuths_refusals, day_azimuths, left_in, step_refusals}
 use Rattle.day_azimuths.specs.Azimuths.{worked}
 use Rattle.day_azimuths.specs.Demand3.{EveryAzimuthNear}
-use Rattle.day_azimuths.specs.declared.answer.DayAzimuths.{DayAzimuths}
-use Rattle.day_azimuths.specs.declared.answer.DayAzimuths.TheVariants.{Refused, Worked}
 use Rattle.day_azimuths.proofs.StepLaws.{all_in_day, in_day}
 
 -- ---- one answer and no other
-azimuths_back : (x : DayAzimuths) → from_answer Worked Refused (azimuths_answer x) ≡ x
-azimuths_back (Worked count) = refl
-azimuths_back (Refused r) = refused_back Worked Refused 0 r
-
-pub one_answered : {found : DayAzimuths} {rule : Answer ℕ} → azimuths_answer found ≡ rule → OneAnswer azimuths_answer rule found
-one_answered = one_from Worked Refused azimuths_back
+pub one_working : {found : Result ℕ Refusal} {rule : Answer ℕ} → azimuths_answer found ≡ rule → OneAnswer azimuths_answer rule found
+one_working = one_answered (λ x y same. same)
 
 -- ---- checks that pass
 module _ (date : Date) (point : Point) (step : ℤ) (room : ℕ) where

@@ -7,9 +7,8 @@ use native.Mathlib.Omega.{arith}
 use lib.IntN.{nat_abs, pos, ℤ}
 use lib.ListN.{drop, length}
 use borrow.Author.Tests.{eq-eqb, lt-ltb}
-use Rattle.arctangent.specs.Direction.{Reduced}
-use Rattle.arctangent.specs.declared.direction.Direction.{Direction}
-use Rattle.arctangent.specs.declared.direction.Direction.TheVariants.{None, Towards}
+use Rattle.arctangent.specs.Direction.{Direction, Reduced}
+use Rattle.std.specs.Prelude.{None, Some}
 use Rattle.calendar.proofs.RefusalLaws.{none, none_append, passed_first, passes}
 use Rattle.calendar.specs.Refusal.{◌unless◌, first}
 use Rattle.day.proofs.CurveLaws.{below_length}
@@ -38,7 +37,7 @@ pub same_turn : SameTurn
 same_turn = refl
 
 floored : (d : Direction) → Reduced d → is_azimuth (strip_azimuth d) ≡ true
-floored (Towards angle) h = simp (lt-ltb (angle.units / coarser) full_turn (omega arith))
+floored (Some angle) h = simp (lt-ltb (angle.units / coarser) full_turn (omega arith))
 floored None h = refl
 
 module _ (f : ℕ → ℕ) (good : (i : ℕ) → is_azimuth (f i) ≡ true) where

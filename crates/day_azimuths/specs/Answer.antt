@@ -1,15 +1,14 @@
 -- The answer to a request for a day's azimuths: Item 1's request, with a step and a buffer of so many entries.
-use Rattle.std.specs.Prelude.{cond, List, [], ◌++◌, ◌∷◌, ℕ, eqb, leb, ℤ, drop, length}
-use Rattle.calendar.specs.Refusal.{◌unless◌, first, number}
+use Rattle.std.specs.Prelude.{Result, cond, List, [], ◌++◌, ◌∷◌, ℕ, eqb, leb, ℤ, drop, length}
+use Rattle.calendar.specs.Refusal.{◌unless◌, first}
+use Rattle.calendar.specs.declared.refusal.Refusal.{Refusal}
 use Rattle.day.specs.Date.{day_refusals}
 use Rattle.day.specs.declared.date.Date.{Date}
-use Rattle.sky.specs.Answer.{Answer, judged}
+use Rattle.sky.specs.Answer.{Answer, answered, judged}
 use Rattle.sky_vectors.specs.declared.geocentric.Body.{Body}
 use Rattle.sky_vectors.specs.declared.station.Point.{Point}
 use Rattle.strip.specs.Checks.{is_step, steps}
 use Rattle.day_azimuths.specs.Azimuths.{worked}
-use Rattle.day_azimuths.specs.declared.answer.DayAzimuths.{DayAzimuths}
-use Rattle.day_azimuths.specs.declared.answer.DayAzimuths.TheVariants.{Refused, Worked}
 
 -- 25 step, 28 a small buffer
 abbrev pub step_refusals : ℤ → ℕ → List ℕ
@@ -23,9 +22,8 @@ azimuths_refusals date point step room = day_refusals date point ++ step_refusal
 unfoldable pub day_azimuths : Date → Point → ℤ → ℕ → Answer ℕ
 day_azimuths date point step room = judged (first (azimuths_refusals date point step room)) 0 (steps step)
 
-abbrev pub azimuths_answer : DayAzimuths → Answer ℕ
-azimuths_answer (Worked count) = record { refusal = 0; value = count }
-azimuths_answer (Refused refusal) = record { refusal = number refusal; value = 0 }
+abbrev pub azimuths_answer : Result ℕ Refusal → Answer ℕ
+azimuths_answer = answered (λ count. count) 0
 
 -- what the buffer holds afterwards: the azimuths, and its rest as it was; where refused, all as it was
 abbrev pub left_in : Date → Body → Point → ℤ → List ℕ → List ℕ

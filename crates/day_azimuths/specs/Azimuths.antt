@@ -1,7 +1,6 @@
 -- A day's azimuths (02, Item 6: "one four-byte azimuth per step from minute 0, floored to 10⁻⁷ degree before the strip is made, 4,294,967,295 where absent").
-use Rattle.std.specs.Prelude.{List, ◌≡◌, ◌*◌, ◌/◌, ℕ, nat_abs, ℤ}
-use Rattle.arctangent.specs.declared.direction.Direction.{Direction}
-use Rattle.arctangent.specs.declared.direction.Direction.TheVariants.{None, Towards}
+use Rattle.std.specs.Prelude.{None, Some, List, ◌≡◌, ◌*◌, ◌/◌, ℕ, nat_abs, ℤ}
+use Rattle.arctangent.specs.Direction.{Direction}
 use Rattle.day.specs.Curve.{azimuth_from, azimuth_on, each_below}
 use Rattle.day.specs.declared.date.Date.{Date}
 use Rattle.number_rules.specs.Angle as Angle
@@ -20,7 +19,7 @@ SameTurn = full_turn * coarser ≡ Angle.full_turn
 
 -- a direction as a strip has it
 abbrev pub strip_azimuth : Direction → ℕ
-strip_azimuth (Towards angle) = angle.units / coarser
+strip_azimuth (Some angle) = angle.units / coarser
 strip_azimuth None = absent
 
 -- one azimuth per step from minute 0

@@ -1,6 +1,5 @@
 // The answer to a request for a day's azimuths: into a lent buffer, or the one refusal.
 ghost use Rattle.std.specs.Prelude.{true, ◌++◌, ◌≡◌, ◌≤◌, drop, length};
-ghost use Rattle.number_rules.specs.SineTable.{sines};
 ghost use Rattle.calendar.specs.Refusal.{OneAnswer, first, verdict_number};
 ghost use Rattle.day.specs.Date.{day_refusals};
 ghost use Rattle.strip.specs.Checks.{is_step, steps};
@@ -9,65 +8,39 @@ ghost use Rattle.day_azimuths.specs.Azimuths.{worked};
 ghost use Rattle.day_azimuths.specs.Demand3.{AzimuthsNear};
 
 use super::steps::fill;
-use calendar::refusal::{Refusal, StripRefusal, Verdict, or_else, unless};
-use day::date::{Date, day_verdict, days_of};
-use numbers::sine_table::table;
+use calendar::refusal::{Refusal, StripRefusal, unless};
+use day::course::Course;
+use day::date::{Date, day_verdict};
 use sky_vectors::geocentric::Body;
-use sky_vectors::station::{Point, runner_at};
+use sky_vectors::station::Point;
 use strip::checks::{is_step, steps_of};
 
-#[derive(Clone, Copy)]
-pub enum DayAzimuths {
-    Worked(usize),
-    Refused(Refusal),
-}
-
 // 25, then 28 of a buffer of so many entries.
-fn step_verdict(step: i64, room: usize) -> Verdict
+fn step_verdict(step: i64, room: usize) -> Result<(), Refusal>
     ensures { verdict_number result ≡ first (step_refusals step room) }
 {
-    if is_step(step) {
-        return unless(Refusal::Strip(StripRefusal::Buffer), steps_of(step) <= room);
-    }
-    Verdict::Refused(Refusal::Strip(StripRefusal::Step))
+    unless(Refusal::Strip(StripRefusal::Step), is_step(step))?;
+    unless(Refusal::Strip(StripRefusal::Buffer), steps_of(step) <= room)
 }
 
 // The first refusal that applies.
-fn azimuths_verdict(date: Date, point: Point, step: i64, room: usize) -> Verdict
+fn azimuths_verdict(date: Date, point: Point, step: i64, room: usize) -> Result<(), Refusal>
     ensures { verdict_number result ≡ first (azimuths_refusals date point step room) }
 {
-    let by_day = day_verdict(date, point);
-    let by_step = step_verdict(step, room);
-    or_else(by_day, by_step)
+    day_verdict(date, point)?;
+    step_verdict(step, room)
 }
 
 // The azimuths of an accepted day; how many there are. What the day has in common is worked once.
-fn work(
-    table: &[u32; 361],
-    date: Date,
-    body: Body,
-    point: Point,
-    step: i64,
-    azimuths: &mut [u32],
-) -> usize
-    requires table_value { (table.now ≡ sines) × (first (day_refusals date point) ≡ 0) }
+fn work(date: Date, body: Body, point: Point, step: i64, azimuths: &mut [u32]) -> usize
+    requires day_value { first (day_refusals date point) ≡ 0 }
     requires step_value { (is_step step ≡ true) × (steps step ≤ length azimuths.old) }
     ensures value { result ≡ steps step }
     ensures azimuths_after { azimuths.new ≡ worked date body point step ++ drop (steps step) azimuths.old }
 {
-    let runner = runner_at(table, point);
-    let days = days_of(date);
+    let course = Course::new(date, body, point);
     let count = steps_of(step);
-    fill(
-        table,
-        body,
-        runner,
-        date,
-        days,
-        step as usize,
-        count,
-        azimuths,
-    );
+    fill(course, step as usize, &mut azimuths[..count]);
     count
 }
 
@@ -79,13 +52,11 @@ pub fn day_azimuths(
     point: Point,
     step: i64,
     azimuths: &mut [u32],
-) -> DayAzimuths
+) -> Result<usize, Refusal>
     ensures one_answer { OneAnswer azimuths_answer (day_azimuths date point step (length azimuths.old)) result }
     ensures azimuths_after { azimuths.new ≡ left_in date body point step azimuths.old }
     ensures azimuths_near { AzimuthsNear date point step (length azimuths.old) }
 {
-    match azimuths_verdict(date, point, step, azimuths.len()) {
-        Verdict::Passed => DayAzimuths::Worked(work(&table(), date, body, point, step, azimuths)),
-        Verdict::Refused(refusal) => DayAzimuths::Refused(refusal),
-    }
+    azimuths_verdict(date, point, step, azimuths.len())?;
+    Ok(work(date, body, point, step, azimuths))
 }

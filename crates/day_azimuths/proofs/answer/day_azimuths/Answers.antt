@@ -4,65 +4,58 @@ use mathlib.Core.Path.{◌∙◌, ◌≡◌, ap, subst⁻¹, sym}
 use Prim.Native.Nat.{◌≤◌}
 use lib.IntN.{ℤ}
 use lib.ListN.{drop, length}
-use borrow.Author.Rules.{rules}
-use Rattle.calendar.proofs.RefusalLaws.{never_none}
+use Rattle.calendar.proofs.RefusalLaws.{handed_up, never_none}
 use Rattle.calendar.specs.Refusal.{first, verdict_number}
 use Rattle.numbers.proofs.Machine.{any}
 use Rattle.sky.proofs.AnswerLaws.{answered_with, refused_with}
 use Rattle.strip.specs.Checks.{is_step, steps}
-use Rattle.day_azimuths.specs.Answer.{azimuths_refusals, day_azimuths}
+use Rattle.day_azimuths.specs.Answer.{azimuths_answer, azimuths_refusals, day_azimuths}
 use Rattle.day_azimuths.specs.Azimuths.{worked}
-use Rattle.day_azimuths.proofs.AnswerLaws.{day_passes, every_azimuth_near, filled_in, has_room, left_alone, one_answered, step_passes}
+use Rattle.day_azimuths.proofs.AnswerLaws.{day_passes, every_azimuth_near, filled_in, has_room, left_alone, one_working, step_passes}
 use Rattle.day_azimuths.proofs.answer.day_azimuths.Goals as goal
-use Rattle.day_azimuths.proofs.answer.day_azimuths.Goals.{After-azimuths_verdict, Start}
+use Rattle.day_azimuths.proofs.answer.day_azimuths.Goals.{After-azimuths_verdict}
 
 -- the verdict
 module _ (v : After-azimuths_verdict) where
-  abbrev s : Start
-  s = (goal.at.After-azimuths_verdict v).Start
+  step_is : (any v.ranges.step).machine ≡ v.args.step
+  step_is = (any v.ranges.step).same
 
-  step_is : (any s.ranges.step).machine ≡ s.args.step
-  step_is = (any s.ranges.step).same
-
-  refusals_are : verdict_number v.azimuths_verdict.result ≡ first (azimuths_refusals s.args.date s.args.point s.args.step (length s.args.azimuths.now))
+  refusals_are : verdict_number v.azimuths_verdict.result ≡ first (azimuths_refusals v.args.date v.args.point v.args.step (length v.args.azimuths.now))
   refusals_are =
-      v.azimuths_verdict.ensures ∙ ap (λ (z : ℤ). first (azimuths_refusals s.args.date s.args.point z (length s.args.azimuths.now))) step_is
+      v.azimuths_verdict.ensures ∙ ap (λ (z : ℤ). first (azimuths_refusals v.args.date v.args.point z (length v.args.azimuths.now))) step_is
 
-pub enum_told-1 : goal.enum_told-1
-enum_told-1 c = search rules
+pub returns-in_err-azimuths_verdict : goal.returns-in_err-azimuths_verdict
+unfolding day_azimuths
+returns-in_err-azimuths_verdict c =
+    let v = (goal.at.returns-in_err-azimuths_verdict c).After-azimuths_verdict in
+    let a = c.args in
+    let before = a.azimuths.now in
+    let refusal = c.in_err-azimuths_verdict.field-0.0 in
+    let is = sym (refusals_are v) ∙ ap verdict_number c.in_err-azimuths_verdict.was in record {
+      one_answer = one_working (ap azimuths_answer (handed_up c.from_residual.ensures) ∙ refused_with 0 (steps a.step) is (never_none refusal));
+      azimuths_after = left_alone a.date a.body a.point a.step before is (never_none refusal);
+      azimuths_near = every_azimuth_near a.date a.point a.step (length before);
+    }
 
 pub work-requires : goal.work-requires
 work-requires c =
     let v = (goal.at.work-requires c).After-azimuths_verdict in
-    let a = (s v).args in
-    let none = sym (refusals_are v) ∙ ap verdict_number c.in-Passed.is in
+    let a = c.args in
+    let none = sym (refusals_are v) ∙ ap verdict_number c.in_ok-azimuths_verdict.was in
     let room = length a.azimuths.now in
     let steps_fit = subst⁻¹ (λ (z : ℤ). steps z ≤ room) (step_is v) (has_room a.date a.point a.step room none) in record {
-      table_value = (c.table.ensures, day_passes a.date a.point a.step room none);
+      day_value = day_passes a.date a.point a.step room none;
       step_value = (ap is_step (step_is v) ∙ step_passes a.date a.point a.step room none, steps_fit);
     }
 
-pub returns-in-Passed : goal.returns-in-Passed
+pub returns : goal.returns
 unfolding day_azimuths
-returns-in-Passed c =
-    let v = (goal.at.returns-in-Passed c).After-azimuths_verdict in
-    let a = (s v).args in
+returns c =
+    let v = (goal.at.returns c).After-azimuths_verdict in
+    let a = c.args in
     let before = a.azimuths.now in
-    let none = sym (refusals_are v) ∙ ap verdict_number c.in-Passed.is in record {
-      one_answer = one_answered (answered_with 0 (steps a.step) none (c.work.ensures.value ∙ ap steps (step_is v)));
+    let none = sym (refusals_are v) ∙ ap verdict_number c.in_ok-azimuths_verdict.was in record {
+      one_answer = one_working (answered_with 0 (steps a.step) none (c.work.ensures.value ∙ ap steps (step_is v)));
       azimuths_after = c.work.ensures.azimuths_after ∙ ap (λ (z : ℤ). worked a.date a.body a.point z ++ drop (steps z) before) (step_is v) ∙ filled_in a.date a.body a.point a.step before none;
-      azimuths_near = every_azimuth_near a.date a.point a.step (length before);
-    }
-
-pub returns-in-Refused : goal.returns-in-Refused
-unfolding day_azimuths
-returns-in-Refused c =
-    let v = (goal.at.returns-in-Refused c).After-azimuths_verdict in
-    let a = (s v).args in
-    let before = a.azimuths.now in
-    let refusal = c.in-Refused.refusal in
-    let is = sym (refusals_are v) ∙ ap verdict_number c.in-Refused.is in record {
-      one_answer = one_answered (refused_with 0 (steps a.step) is (never_none refusal));
-      azimuths_after = left_alone a.date a.body a.point a.step before is (never_none refusal);
       azimuths_near = every_azimuth_near a.date a.point a.step (length before);
     }
