@@ -6,36 +6,35 @@ use Prim.Native.Nat.{ℕ}
 use lib.IntN.{ℤ}
 use lib.ListN.{drop}
 use Rattle.arctangent.specs.Direction.{angle_or, mark}
+use Rattle.std.specs.Prelude.{None, Option, Result, Some}
 use Rattle.calendar.specs.Refusal.{OneAnswer, first}
+use Rattle.calendar.specs.declared.refusal.Refusal.{Refusal}
 use Rattle.day.proofs.CurveLaws.{below_length}
 use Rattle.day.specs.Curve.{azimuth_on, minutes}
 use Rattle.day.specs.Date.{day_refusals}
 use Rattle.day.specs.declared.date.Date.{Date}
-use Rattle.sky.proofs.AnswerLaws.{from_answer, judged_value, judged_zeros, one_from, refused_back}
+use Rattle.sky.proofs.AnswerLaws.{judged_value, judged_zeros, one_answered}
 use Rattle.sky.specs.Answer.{Answer}
 use Rattle.sky_vectors.specs.declared.geocentric.Body.{Body}
 use Rattle.sky_vectors.specs.declared.station.Point.{Point}
-use Rattle.plan.specs.Answer.{PlanNumbers, left_in, no_plan, plan_of, planned, planning, planning_answer}
+use Rattle.plan.specs.Answer.{PlanNumbers, left_in, no_plan, plan_numbers, plan_of, planned, planning, planning_answer}
 use Rattle.plan.specs.Plan.{EachMinute, count, day_azimuths, is_possible}
-use Rattle.plan.specs.declared.answer.Planning.{Planning}
-use Rattle.plan.specs.declared.answer.Planning.TheVariants.{NoPlan, Planned, Refused}
 
 pub day_whole : (date : Date) (body : Body) (point : Point) → EachMinute (day_azimuths date body point)
 unfolding day_azimuths
 day_whole date body point = below_length (λ m. angle_or mark (azimuth_on date body point m)) minutes
 
 -- ---- one answer and no other
-given : PlanNumbers → Planning
-given p = cond p.has (Planned p.points) NoPlan
+given : PlanNumbers → Option ℕ
+given p = cond p.has (Some p.points) None
 
-read_planning : (x : Planning) → from_answer given Refused (planning_answer x) ≡ x
+read_plan : (x : Option ℕ) → given (plan_numbers x) ≡ x
 unfolding given
-read_planning (Planned n) = refl
-read_planning NoPlan = refl
-read_planning (Refused refusal) = refused_back given Refused no_plan refusal
+read_plan (Some n) = refl
+read_plan None = refl
 
-pub one_planning : {found : Planning} {rule : Answer PlanNumbers} → planning_answer found ≡ rule → OneAnswer planning_answer rule found
-one_planning = one_from given Refused read_planning
+pub one_planning : {found : Result (Option ℕ) Refusal} {rule : Answer PlanNumbers} → planning_answer found ≡ rule → OneAnswer planning_answer rule found
+one_planning = one_answered (λ x y same. sym (read_plan x) ∙ ap given same ∙ read_plan y)
 
 -- ---- by its cases
 module _ (date : Date) (body : Body) (point : Point) (tolerance : ℕ) where

@@ -9,9 +9,8 @@ use lib.Dec.{eqb}
 use lib.IntN.{nat_abs, pos, ℤ}
 use lib.ListN.{length}
 use borrow.Author.Tests.{eqb-false, eqb-true, le-leb, lt-ltb}
-use Rattle.arctangent.specs.Direction.{Reduced, angle_or, is_there, mark}
-use Rattle.arctangent.specs.declared.direction.Direction.{Direction}
-use Rattle.arctangent.specs.declared.direction.Direction.TheVariants.{None, Towards}
+use Rattle.std.specs.Prelude.{None, Some}
+use Rattle.arctangent.specs.Direction.{Direction, Reduced, angle_or, is_there, mark}
 use Rattle.calendar.specs.Refusal.{first}
 use Rattle.day.proofs.CurveLaws.{below_entry}
 use Rattle.day.proofs.SearchLaws.{clash}
@@ -45,11 +44,11 @@ either same (inr e) = inr (same ∙ e)
 -- ---- an entry is reduced exactly where there is a direction
 entry_there : (d : Direction) → Reduced d → is_reduced (angle_or mark d) ≡ is_there d
 unfolding is_reduced
-entry_there (Towards angle) below = and_intro (le-leb 0 angle.units zero-le) (lt-ltb angle.units full_turn below)
+entry_there (Some angle) below = and_intro (le-leb 0 angle.units zero-le) (lt-ltb angle.units full_turn below)
 entry_there None below = refl
 
-there_towards : (d : Direction) → is_there d ≡ true → d ≡ Towards (record { units = nat_abs (angle_or mark d) })
-there_towards (Towards angle) e = refl
+there_towards : (d : Direction) → is_there d ≡ true → d ≡ Some (record { units = nat_abs (angle_or mark d) })
+there_towards (Some angle) e = refl
 there_towards None e = absurd (clash e refl)
 
 module _ (date : Date) (body : Body) (point : Point) where
@@ -63,14 +62,14 @@ module _ (date : Date) (body : Body) (point : Point) where
   unfolding day_azimuths
   entry_is m h = below_entry (λ k. angle_or mark (sky k)) (pos 0) minutes m h
 
-  azimuth_of : (m : ℕ) (angle : Angle) → m < minutes → sky m ≡ Towards angle → azimuth day m ≡ angle.units
+  azimuth_of : (m : ℕ) (angle : Angle) → m < minutes → sky m ≡ Some angle → azimuth day m ≡ angle.units
   azimuth_of m angle h is = ap nat_abs (entry_is m h) ∙ ap (λ (d : Direction). nat_abs (angle_or mark d)) is
 
   reduced_there : (m : ℕ) → m < minutes → is_reduced (signed_at day m) ≡ is_there (sky m)
   reduced_there m h = ap is_reduced (entry_is m h) ∙ entry_there (sky m) (place_at_in_turns body point (minute_of date (days date) m)).azimuth_reduced
 
-  towards : (m : ℕ) → m < minutes → is_there (sky m) ≡ true → sky m ≡ Towards (record { units = azimuth day m })
-  towards m h is = there_towards (sky m) is ∙ ap (λ (z : ℤ). Towards (record { units = nat_abs z })) (sym (entry_is m h))
+  towards : (m : ℕ) → m < minutes → is_there (sky m) ≡ true → sky m ≡ Some (record { units = azimuth day m })
+  towards m h is = there_towards (sky m) is ∙ ap (λ (z : ℤ). Some (record { units = nat_abs z })) (sym (entry_is m h))
 
   -- ---- a plan exactly when
   possible_from : is_possible day ≡ true → Possible date body point
@@ -118,7 +117,7 @@ module _ (date : Date) (body : Body) (point : Point) where
       p : Plannable day
       p = plannable day (day_whole date body point) (sym (has_is (planned_passes is)) ∙ is)
 
-      known : (m : ℕ) → m ≤ last_minute → sky m ≡ Towards (record { units = azimuth day m })
+      known : (m : ℕ) → m ≤ last_minute → sky m ≡ Some (record { units = azimuth day m })
       known m h = towards m (omega arith) ((possible_from (sym (has_is (planned_passes is)) ∙ is)).each_there m (omega arith))
 
       accepted : judgement date body point tolerance (sent_minutes date body point tolerance) (sent_azimuths date body point tolerance) ≡ record { refusal = 0; minute = 0 }

@@ -12,8 +12,8 @@ use lib.Dec.{ltb}
 use lib.IntN.{nat_abs, pos, ℤ}
 use lib.ListN.{length}
 use borrow.Author.Tests.{le-ltb, lt-ltb}
-use Rattle.arctangent.specs.declared.direction.Direction.{Direction}
-use Rattle.arctangent.specs.declared.direction.Direction.TheVariants.{Towards}
+use Rattle.std.specs.Prelude.{Some}
+use Rattle.arctangent.specs.Direction.{Direction}
 use Rattle.calendar.specs.Refusal.{first}
 use Rattle.day.proofs.CurveLaws.{below_entry, below_length}
 use Rattle.day.proofs.SearchLaws.{clash}
@@ -97,7 +97,7 @@ module _ (tolerance : ℕ) (day : List ℤ) (p : Plannable day) where
       apart i h = rw (azimuth_is i (omega arith), azimuth_is (i + 1) (omega arith)) (reached_apart tolerance day p (point i) (point (i + 1)) (reached i h))
 
   -- ---- against a day whose azimuth is known at each minute
-  module _ (worked : ℕ → Direction) (known : (m : ℕ) → m ≤ last_minute → worked m ≡ Towards (record { units = azimuth day m })) where
+  module _ (worked : ℕ → Direction) (known : (m : ℕ) → m ≤ last_minute → worked m ≡ Some (record { units = azimuth day m })) where
     -- on a leg between two azimuths of the day a minute is out exactly where it is off
     module _ (ms : List ℕ) (az : List ℤ) (f : WellFormed ms az) (i a b : ℕ) (h : i + 1 < length ms)
         (from : at ms i ≡ a) (to : at ms (i + 1) ≡ b) (start : azimuth az i ≡ azimuth day a) (end : azimuth az (i + 1) ≡ azimuth day b) where

@@ -1,14 +1,13 @@
 -- The planner's answer (02, Item 7: "After the same first checks the planner answers 'no plan' exactly when ..").
-use Rattle.std.specs.Prelude.{Bool, cond, false, true, List, ◌++◌, ℕ, ℤ, drop}
-use Rattle.calendar.specs.Refusal.{first, number}
+use Rattle.std.specs.Prelude.{Bool, None, Option, Result, Some, cond, false, true, List, ◌++◌, ℕ, ℤ, drop}
+use Rattle.calendar.specs.Refusal.{first}
+use Rattle.calendar.specs.declared.refusal.Refusal.{Refusal}
 use Rattle.day.specs.Date.{day_refusals}
 use Rattle.day.specs.declared.date.Date.{Date}
-use Rattle.sky.specs.Answer.{Answer, judged}
+use Rattle.sky.specs.Answer.{Answer, answered, judged}
 use Rattle.sky_vectors.specs.declared.geocentric.Body.{Body}
 use Rattle.sky_vectors.specs.declared.station.Point.{Point}
 use Rattle.plan.specs.Plan.{count, day_azimuths, is_possible, plan_azimuths, plan_minutes}
-use Rattle.plan.specs.declared.answer.Planning.{Planning}
-use Rattle.plan.specs.declared.answer.Planning.TheVariants.{NoPlan, Planned, Refused}
 
 -- a plan in numbers: whether there is one, and how many points it has, 0 where there is none
 pub record PlanNumbers : Type 0 where
@@ -21,10 +20,12 @@ planned n = record { has = true; points = n }
 abbrev pub no_plan : PlanNumbers
 no_plan = record { has = false; points = 0 }
 
-abbrev pub planning_answer : Planning → Answer PlanNumbers
-planning_answer (Planned n) = record { refusal = 0; value = planned n }
-planning_answer NoPlan = record { refusal = 0; value = no_plan }
-planning_answer (Refused refusal) = record { refusal = number refusal; value = no_plan }
+abbrev pub plan_numbers : Option ℕ → PlanNumbers
+plan_numbers (Some n) = planned n
+plan_numbers None = no_plan
+
+abbrev pub planning_answer : Result (Option ℕ) Refusal → Answer PlanNumbers
+planning_answer = answered plan_numbers no_plan
 
 -- the plan of a day by its azimuths, or none
 abbrev pub plan_of : ℕ → List ℤ → PlanNumbers

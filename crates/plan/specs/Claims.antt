@@ -1,7 +1,6 @@
 -- What 02 asks of the planner by name (Item 7).
-use Rattle.std.specs.Prelude.{Bool, true, List, ◌++◌, ◌↔◌, ◌⊎◌, ◌≡◌, ◌+◌, ◌<◌, ◌≤◌, suc, ℕ, ℤ, drop, length, take}
+use Rattle.std.specs.Prelude.{Bool, Some, true, List, ◌++◌, ◌↔◌, ◌⊎◌, ◌≡◌, ◌+◌, ◌<◌, ◌≤◌, suc, ℕ, ℤ, drop, length, take}
 use Rattle.arctangent.specs.Direction.{is_there}
-use Rattle.arctangent.specs.declared.direction.Direction.TheVariants.{Towards}
 use Rattle.calendar.specs.Refusal.{first}
 use Rattle.day.specs.Curve.{azimuth_on, minutes}
 use Rattle.day.specs.Date.{day_refusals}
@@ -23,7 +22,7 @@ module _ (date : Date) (body : Body) (point : Point) where
   -- each minute of the day has an azimuth, and no two adjacent minutes are exactly opposite
   pub record Possible : Type 0 where
     pub each_there : (m : ℕ) → m < minutes → is_there (azimuth_on date body point m) ≡ true
-    pub never_opposite : (m : ℕ) (here next : Angle) → m + 1 < minutes → azimuth_on date body point m ≡ Towards here → azimuth_on date body point (m + 1) ≡ Towards next
+    pub never_opposite : (m : ℕ) (here next : Angle) → m + 1 < minutes → azimuth_on date body point m ≡ Some here → azimuth_on date body point (m + 1) ≡ Some next
         → clockwise here.units next.units ≡ half_turn → ⊥
 
   module _ (tolerance : ℕ) where

@@ -14,13 +14,11 @@ fn straight(day: &[i64], first: usize, last: usize) -> Leg
     requires first_le_last_minute { (first ≤ last_minute) × (last ≤ last_minute) }
     ensures { result ≡ straight day.now first last }
 {
-    let start = azimuth_at(day, first);
-    let end = azimuth_at(day, last);
     Leg {
         first,
         last,
-        start,
-        end,
+        start: azimuth_at(day, first),
+        end: azimuth_at(day, last),
     }
 }
 
@@ -34,12 +32,10 @@ fn reaches(day: &[i64], tolerance: u64, first: usize, last: usize) -> bool
         return false;
     }
     let leg = straight(day, first, last);
-    let mut minute = first + 1;
-    while minute <= last {
+    for minute in first + 1..last + 1 {
         if tolerance < distance(value_on(leg, minute), azimuth_at(day, minute)) {
             return false;
         }
-        minute += 1;
     }
     true
 }
@@ -50,11 +46,12 @@ fn farthest(day: &[i64], tolerance: u64, first: usize) -> usize
     requires first_lt_last_minute { first < last_minute }
     ensures { result ≡ farthest tolerance day.now first }
 {
-    let mut last = MINUTES - 1;
-    while !reaches(day, tolerance, first, last) {
-        last -= 1;
+    for last in (first + 2..MINUTES).rev() {
+        if reaches(day, tolerance, first, last) {
+            return last;
+        }
     }
-    last
+    first + 1
 }
 
 // A point into both buffers.
@@ -68,7 +65,8 @@ fn put_point(day: &[i64], minute: usize, index: usize, minutes: &mut [u32], azim
     azimuths[index] = day[minute];
 }
 
-// Writes the points of a plan, and gives their number; entries behind them are left alone.
+// Writes the points of a plan, and gives their number; entries behind them are left alone. How many there are shows only at the last, and both of C's buffers are written
+// at one index, so that it is counted by hand.
 pub fn put_points(day: &[i64], tolerance: u64, minutes: &mut [u32], azimuths: &mut [i64]) -> usize
     requires plannable { Plannable day.now }
     requires each_minute { EachMinute minutes.old × EachMinute azimuths.old }

@@ -1,13 +1,9 @@
 use mathlib.Core.Bool.{false}
 use mathlib.Core.Path.{◌≡◌}
-use Prim.Native.Nat.{◌<◌, ◌≤◌, ℕ}
+use Prim.Native.Nat.{◌≤◌, ℕ}
 use Rattle.day.specs.Curve.{last_minute}
 use Rattle.plan.specs.Plan.{reaches}
 use Rattle.plan.proofs.planner.farthest.Given as goal
 
 abbrev pub invariant-loop-last : goal.invariant-loop-last
-invariant-loop-last l =
-    (l.first < l.last) × (l.last ≤ last_minute) × ((e : ℕ) → l.last < e → e ≤ last_minute → reaches l.tolerance l.day l.first e ≡ false)
-
-abbrev pub decreases-loop-last : goal.decreases-loop-last
-decreases-loop-last l = l.last
+invariant-loop-last l = (e : ℕ) → l.last ≤ e → e ≤ last_minute → reaches l.tolerance l.day l.first e ≡ false

@@ -1,12 +1,8 @@
 use mathlib.Core.Bool.{false}
 use mathlib.Core.Path.{◌≡◌}
-use Prim.Native.Nat.{◌+◌, ◌-◌, ◌<◌, ◌≤◌, ℕ}
+use Prim.Native.Nat.{◌<◌, ℕ}
 use Rattle.plan.specs.Plan.{is_off}
 use Rattle.plan.proofs.planner.reaches.Given as goal
 
 abbrev pub invariant-loop-minute : goal.invariant-loop-minute
-invariant-loop-minute l =
-    (l.first < l.minute) × (l.minute ≤ l.last + 1) × ((m : ℕ) → m < l.minute → is_off l.tolerance l.day l.first l.last m ≡ false)
-
-abbrev pub decreases-loop-minute : goal.decreases-loop-minute
-decreases-loop-minute l = l.last + 1 - l.minute
+invariant-loop-minute l = (m : ℕ) → m < l.minute → is_off l.tolerance l.day l.first l.last m ≡ false
