@@ -110,7 +110,7 @@ fn elapsed_of(start: Start) -> i64
     ((start.hour * 60 + start.minute) * 60 + start.second) * SECOND as i64 + start.fraction
 }
 
-// Units from the first instant of 2000, UTC, of an accepted start.
+// Units from the first instant of 2000, UTC, of an accepted start. That it is accepted is a clause, not a type of its own: the pages name this and `instant_of` as functions of any start.
 pub fn utc_of(start: Start) -> i64
     requires { first (start_refusals start) ≡ 0 }
     ensures { result ≡ utc start }

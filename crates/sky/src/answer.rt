@@ -13,7 +13,7 @@ use sky_vectors::geocentric::Body;
 use sky_vectors::place::{Place, place_at};
 use sky_vectors::station::Point;
 
-// The first of 1 to 11 that applies.
+// The first of 1 to 11 that applies. The parts of a request are no struct: each caller asks once, and would make it for that call.
 fn request_verdict(start: Start, point: Point, air: Option<Air>) -> Result<(), Refusal>
     ensures { verdict_number result ≡ first (request_refusals start point air) }
 {

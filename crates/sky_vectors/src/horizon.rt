@@ -22,7 +22,7 @@ pub struct Horizon {
     pub east: i64,
 }
 
-// At a latitude.
+// At a latitude. It differs from `meridian` in the axes alone, whose names are all that `rotated` leaves to either.
 pub fn horizon_at(latitude: SineCosine, vector: Vector) -> Horizon
     requires { OneAngle latitude × SmallVector vector_limit vector }
     ensures { result ≡ horizon latitude vector }
@@ -79,13 +79,7 @@ fn clamped(angle: i64) -> i64
     ensures { result ≡ clamped angle }
 {
     let most = Angle::QUARTER as i64;
-    if angle > most {
-        most
-    } else if angle < -most {
-        -most
-    } else {
-        angle
-    }
+    angle.clamp(-most, most)
 }
 
 pub fn elevation(seen: Horizon) -> i64

@@ -44,7 +44,7 @@ pub fn from_surface(body: Geocentric, orientation: Orientation, observer: Observ
     shifted(parallax, observer, from_centre(body, orientation))
 }
 
-// The direction after parallax, at an instant.
+// The direction after parallax, at an instant. That the runner stands and the instant is near are clauses, not fields: the rules speak of every runner and instant (EveryPlaceInTurns).
 pub fn direction_at(body: Body, runner: Runner, instant: Instant) -> Vector
     requires { Standing runner × Reachable instant }
     ensures { result ≡ direction body runner instant }
@@ -67,7 +67,7 @@ pub fn place_towards(latitude: SineCosine, direction: Vector) -> Place
     }
 }
 
-// For a runner who is worked out once and stands for many instants.
+// For a runner who is worked out once and stands for many instants. The three are no struct: each caller makes a new instant for each call.
 pub fn place_from(body: Body, runner: Runner, instant: Instant) -> Place
     requires { Standing runner × Reachable instant }
     ensures { result ≡ place_from body runner instant }

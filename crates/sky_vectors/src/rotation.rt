@@ -14,7 +14,7 @@ pub struct Pair {
     pub across: i64,
 }
 
-// Each product is floored on its own.
+// Each product is floored on its own. That both are of one angle is a clause, not a field: the rules compare pairs by their two numbers (sine_cosine). A coordinate's bound is one too: it grows from step to step.
 pub fn rotated(angle: SineCosine, x: i64, y: i64) -> Pair
     requires { OneAngle angle × (nat_abs x ≤ vector_limit) × (nat_abs y ≤ vector_limit) }
     ensures { result ≡ rotated angle x y }

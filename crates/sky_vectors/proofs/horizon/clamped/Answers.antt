@@ -1,29 +1,18 @@
 -- `sky_vectors::horizon::clamped` meets its contract.
-use mathlib.Core.Bool.{false, true}
-use mathlib.Core.Path.{◌≡◌, subst}
+use mathlib.Core.Path.{◌∙◌, ◌≡◌, ap}
+use native.Mathlib.Omega.{arith}
 use lib.IntN.{neg_ℤ, pos, ℤ}
-use lib.Signed.{lt_z}
+use Rattle.std.specs.Int.{int_max, int_min}
+use Rattle.std.proofs.lemmas.Int.{clamps, ints}
 use Rattle.number_rules.specs.Angle.{quarter_turn}
-use Rattle.numbers.proofs.Machine.{Mirror, any}
+use Rattle.numbers.proofs.Machine.{any, passed}
 use Rattle.sky_vectors.specs.Horizon.{clamped}
 use Rattle.sky_vectors.proofs.horizon.clamped.Goals as goal
-use Rattle.sky_vectors.proofs.horizon.clamped.Goals.{Start}
 
-abbrev angle : Start → Mirror
-angle s = any s.ranges.angle
-
-pub returns-then-angle-most : goal.returns-then-angle-most
+one : (x : ℤ) → int_max (neg_ℤ (pos quarter_turn)) (int_min x (pos quarter_turn)) ≡ clamped x
 unfolding clamped
-returns-then-angle-most c = rw (subst (λ (z : ℤ). lt_z (pos quarter_turn) z ≡ true) (angle (goal.at.returns-then-angle-most c).Start).same c.if-angle-most.true)
+one x = grind (arith, ints, clamps)
 
-pub returns-then-angle-most-2 : goal.returns-then-angle-most-2
+pub returns : goal.returns
 unfolding clamped
-returns-then-angle-most-2 c =
-    let s = (angle (goal.at.returns-then-angle-most-2 c).Start).same in
-    rw (subst (λ (z : ℤ). lt_z (pos quarter_turn) z ≡ false) s c.if-angle-most.false, subst (λ (z : ℤ). lt_z z (neg_ℤ (pos quarter_turn)) ≡ true) s c.if-angle-most-2.true)
-
-pub returns-else-angle-most-2 : goal.returns-else-angle-most-2
-unfolding clamped
-returns-else-angle-most-2 c =
-    let s = (angle (goal.at.returns-else-angle-most-2 c).Start).same in
-    rw (subst (λ (z : ℤ). lt_z (pos quarter_turn) z ≡ false) s c.if-angle-most.false, subst (λ (z : ℤ). lt_z z (neg_ℤ (pos quarter_turn)) ≡ false) s c.if-angle-most-2.false) s
+returns c = passed c.clamp.type_inv (c.clamp.ensures.value ∙ ap (λ (z : ℤ). int_max (neg_ℤ (pos quarter_turn)) (int_min z (pos quarter_turn))) (any c.ranges.angle).same ∙ one c.args.angle)
