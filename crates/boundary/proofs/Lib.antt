@@ -1,2 +1,4 @@
 pub mod CodeLaws
 pub mod DisksLaws
+pub mod FaultLaws
+pub mod LentLaws

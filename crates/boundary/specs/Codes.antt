@@ -1,13 +1,13 @@
 -- The codes of a body and of an air, and the refusals outside 01's numbers: no request can be formed, so they are given before all others.
-use Rattle.std.specs.Prelude.{◌||◌, cond, [], ◌∷◌, ◌≡◌, ℕ, eqb, leb, Float, nat_abs, pos, ℤ}
+use Rattle.std.specs.Prelude.{◌||◌, cond, [], ◌∷◌, ◌≡◌, List, ℕ, eqb, leb, Float, nat_abs, None, Option, pos, Some, ℤ}
 use Rattle.number_rules.specs.Angle.{half_turn, quarter_turn}
 use Rattle.sum_rules.specs.Instant.{furthest, minus}
 use Rattle.overlap.specs.DiskRange.{radius_most, sun_radius_least}
+use Rattle.overlap.specs.declared.overlap.Disks.{Disks}
 use Rattle.calendar.specs.Refusal.{◌else◌, ◌unless◌, first}
 use Rattle.numbers.specs.Whole.{between}
 use Rattle.refraction.specs.Air.{air_refusals}
 use Rattle.refraction.specs.declared.air.Air.{Air}
-use Rattle.refraction.specs.declared.air.Air.TheVariants.{Measured, None}
 use Rattle.refraction.specs.Double.{double}
 use Rattle.sky_vectors.specs.declared.geocentric.Body.{Body}
 use Rattle.sky_vectors.specs.declared.geocentric.Body.TheVariants.{Moon, Sun}
@@ -60,8 +60,8 @@ none = 0
 abbrev pub measured : ℕ
 measured = 2
 
-abbrev pub air_of : ℕ → Float → Float → Air
-air_of kind pressure temperature = cond (eqb kind none) None (Measured pressure temperature)
+abbrev pub air_of : ℕ → Float → Float → Option Air
+air_of kind pressure temperature = cond (eqb kind none) None (Some (record { pressure = pressure; temperature = temperature }))
 
 abbrev pub kind_refusal : ℕ → ℕ
 kind_refusal kind = unknown_air unless (eqb kind none || eqb kind measured)
@@ -72,14 +72,14 @@ carried_over_kind = 3
 
 abbrev pub strip_kind_of : StripAir → ℕ
 strip_kind_of Strips.None = none
-strip_kind_of (Strips.Measured pressure temperature) = measured
-strip_kind_of (Strips.CarriedOver pressure temperature) = carried_over_kind
+strip_kind_of (Strips.Measured air) = measured
+strip_kind_of (Strips.CarriedOver air) = carried_over_kind
 
 -- of measured air in a strip no pressure and no temperature is asked, since it is refused
 abbrev pub strip_air_of : ℕ → StripAir
 strip_air_of kind =
-    cond (eqb kind none) Strips.None
-    (cond (eqb kind measured) (Strips.Measured (double (pos 0)) (double (pos 0))) (Strips.CarriedOver (double (pos 0)) (double (pos 0))))
+    let zeros : Air = record { pressure = double (pos 0); temperature = double (pos 0) } in
+    cond (eqb kind none) Strips.None (cond (eqb kind measured) (Strips.Measured zeros) (Strips.CarriedOver zeros))
 
 abbrev pub strip_kind_refusal : ℕ → ℕ
 strip_kind_refusal kind = unknown_air unless (eqb kind carried_over_kind || (eqb kind none || eqb kind measured))
@@ -119,3 +119,10 @@ disks_refusal apart rs rm =
     ∷ no_disks unless between (pos sun_radius_least) rs (pos radius_most)
     ∷ no_disks unless between (pos 0) rm (pos radius_most)
     ∷ [])
+
+-- the separation and the two radii as natural numbers, as they are given and as they are read
+abbrev pub given_disks : ℤ → ℤ → ℤ → List ℕ
+given_disks apart rs rm = nat_abs apart ∷ nat_abs rs ∷ nat_abs rm ∷ []
+
+abbrev pub disks_numbers : Disks → List ℕ
+disks_numbers disks = disks.apart ∷ disks.sun ∷ disks.moon ∷ []

@@ -1,14 +1,9 @@
--- A point and a strip's header as C hands them over: their numbers in order.
+-- A strip's header as C hands it over: its numbers in order.
 use Rattle.std.specs.Prelude.{List, ℕ, ℤ}
 use Rattle.sum_rules.specs.Table.{column}
-use Rattle.sky_vectors.specs.declared.station.Point.{Point}
 use Rattle.strip.specs.declared.header.Header.{Header}
 use Rattle.calendar.specs.Refusal.{◌else◌}
 use Rattle.boundary.specs.Codes.{body_of, body_refusal, code_in, strip_air_of, strip_kind_refusal}
-
--- longitude, latitude and height
-abbrev pub point_from : List ℤ → Point
-point_from numbers = record { longitude = column numbers 0; latitude = column numbers 1; height = column numbers 2 }
 
 -- air and body by their codes, year, month, day, longitude, latitude and step
 unfoldable pub header_from : List ℤ → Header

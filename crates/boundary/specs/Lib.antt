@@ -1,3 +1,4 @@
 pub mod Codes
+pub mod Fault
 pub mod Given
 pub mod Lent

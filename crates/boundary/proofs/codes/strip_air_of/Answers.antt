@@ -1,15 +1,12 @@
--- `boundary::codes::strip_air_of` meets its contract.
+-- `boundary::codes::strip_air_of` meets its contract: no bits are the double of 0.
+use mathlib.Core.Path.{refl}
 use lib.Ieee.{of_bits, of_int}
-use borrow.Author.Tests.{eq-eqb, ne_eqb}
 use Rattle.boundary.proofs.codes.strip_air_of.Goals as goal
 
-pub returns-then-kind-eq-NONE : goal.returns-then-kind-eq-NONE
-returns-then-kind-eq-NONE c = simp (eq-eqb _ _ c.if-kind-eq-NONE.true)
-
-pub returns-then-kind-eq-MEASURED : goal.returns-then-kind-eq-MEASURED
+pub returns-in-2 : goal.returns-in-2
 unfolding of_bits of_int
-returns-then-kind-eq-MEASURED c = simp (ne_eqb _ _ c.if-kind-eq-NONE.false, eq-eqb _ _ c.if-kind-eq-MEASURED.true)
+returns-in-2 c = rw c.in-2.is (refl, refl)
 
-pub returns-else-kind-eq-MEASURED : goal.returns-else-kind-eq-MEASURED
+pub returns-in-3 : goal.returns-in-3
 unfolding of_bits of_int
-returns-else-kind-eq-MEASURED c = simp (ne_eqb _ _ c.if-kind-eq-NONE.false, ne_eqb _ _ c.if-kind-eq-MEASURED.false)
+returns-in-3 c = rw c.in-3.is (refl, refl)
