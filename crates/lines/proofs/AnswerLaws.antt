@@ -1,6 +1,6 @@
--- An input that is read in parts is answered as the whole of it, and the bytes of a line that are held are enough.
+-- An input that is read in parts is answered as the whole of it, and the bytes of a line that are are enough.
 -- What is printed and the line that is left go byte by byte, so they split wherever the input is cut.
--- A line that is longer than what is held is refused, and so is what is held of it: both have the same answer, whatever byte comes next.
+-- A line that is longer than what is is refused, and so is what is of it: both have the same answer, whatever byte comes next.
 use mathlib.Core.Bool.{Bool, cond, false, true}
 use mathlib.Core.List.{List, [], ◌∷◌, ◌++◌, append_assoc, append-nil}
 use mathlib.Core.Option.{Option, none}
@@ -12,7 +12,7 @@ use lib.Dec.{eqb, leb}
 use lib.IntN.{ℤ}
 use lib.ListN.{length, length-append}
 use lib.Seq.{length-take-le, take_all, take-append-le, take_at}
-use borrow.Author.Tests.{eq-eqb, leb-false, leb-true, ne_eqb}
+use borrow.Author.Tests.{eq-eqb, eqb-false, eqb-true, leb-false, leb-true, ne_eqb}
 use Rattle.text.proofs.LineLaws.{too_long_line}
 use Rattle.day_lines.proofs.DaysLineLaws.{too_long_days}
 use Rattle.day_lines.specs.DaysLine.{days_line, rise_set_line}
@@ -25,7 +25,6 @@ use Rattle.lines.specs.Lines.{Answered, Stepped, answers, kept, last_answer, lef
 use Rattle.lines.specs.declared.answers.Turn.{Turn}
 use Rattle.lines.specs.declared.line.Form.{Form}
 use Rattle.lines.specs.declared.line.Form.TheVariants as Forms
-use Rattle.lines.specs.declared.line.Line.{Line}
 
 -- ---- parts
 
@@ -60,7 +59,7 @@ module _ (form : Form) (line : List ℕ) {byte : ℕ} where
   unfolding printed_at line_after
   at_other isn't = (simp (ne_eqb byte newline isn't), simp (ne_eqb byte newline isn't))
 
--- ---- a line that is longer than what is held of it
+-- ---- a line that is longer than what is of it
 
 -- what holds of a short line and of a long one
 by_length : (line : List ℕ) {P : Type 0} → (length line ≤ line_room → P) → (line_room < length line → P) → P
@@ -124,17 +123,24 @@ module _ (form : Form) where
   some_last [] h = absurd (not-suc-le-zero h)
   some_last (byte ∷ rest) h = refl
 
+-- a slice that tells that it is empty, or that it is not
+pub no_bytes : (s : List ℕ) → eqb (length s) 0 ≡ true → s ≡ []
+no_bytes [] e = refl
+no_bytes (byte ∷ rest) e = absurd (omega (arith, eqb-true (length (byte ∷ rest)) 0 e))
+
+pub some_bytes : (s : List ℕ) → eqb (length s) 0 ≡ false → 0 < length s
+some_bytes s e = omega (arith, eqb-false (length s) 0 e)
+
 -- ---- what the program does
 
-pub answered_none : (form : Form) (line : Line) (out : List ℕ) → line.length ≤ line_room → Answered form line [] out (record { line = line; used = 0 })
+pub answered_none : (form : Form) (line out : List ℕ) → Answered form line [] out (record { line = line; used = 0 })
 unfolding answers left
-answered_none form line out h = record { line_within = h; used_within = omega arith; printed = λ whole e. refl; line = λ whole e. e }
+answered_none form line out = record { used_within = omega arith; printed = λ whole e. refl; line = λ whole e. e }
 
-pub answered_more : {form : Form} {before : Line} {chunk entry exit : List ℕ} {turn next : Turn} {byte : ℕ} → Answered form before chunk entry turn
+pub answered_more : {form : Form} {before : List ℕ} {chunk entry exit : List ℕ} {turn next : Turn} {byte : ℕ} → Answered form before chunk entry turn
     → Stepped form turn byte entry exit next → Answered form before (chunk ++ byte ∷ []) exit next
 answered_more {form} {chunk} {byte} a s =
     record {
-      line_within = s.line_within;
       used_within = omega (arith, s.used_within, a.used_within, length-append chunk (byte ∷ []));
       printed =
           λ whole e.

@@ -4,11 +4,10 @@
 use mathlib.Core.List.{List, [], ◌∷◌, ◌++◌, append_assoc, flatten}
 use mathlib.Core.Path.{◌∙◌, ◌≡◌, ap, ap₂, sym}
 use Prim.Native.Nat.{ℕ}
-use Rattle.lines.specs.Lines.{answers, header, held, kept, last_answer, left, output}
+use Rattle.lines.specs.Lines.{answers, header, kept, last_answer, left, output}
 use Rattle.lines.specs.Parts.{Handed, WholeOutput}
 use Rattle.lines.specs.Parts.Handed.{end, part}
 use Rattle.lines.specs.declared.line.Form.{Form}
-use Rattle.lines.specs.declared.line.Line.{Line}
 use Rattle.lines.proofs.AnswerLaws.{answers_parts, left_parts}
 
 -- what is printed for an input that goes on after the start of a line
@@ -20,8 +19,8 @@ from_parts form whole first rest =
     ap₂ (λ (before : List ℕ) (line : List ℕ). before ++ last_answer form line) (answers_parts form whole first rest) (left_parts whole first rest)
     ∙ append_assoc (answers form whole first) (answers form (left whole first) rest) (last_answer form (left (left whole first) rest))
 
-handed : {form : Form} {line : Line} {parts : List (List ℕ)} {bytes : List ℕ} → Handed form line parts bytes
-    → (whole : List ℕ) → held line ≡ kept whole → bytes ≡ from_line form whole (flatten parts)
+handed : {form : Form} {line : List ℕ} {parts : List (List ℕ)} {bytes : List ℕ} → Handed form line parts bytes
+    → (whole : List ℕ) → line ≡ kept whole → bytes ≡ from_line form whole (flatten parts)
 unfolding answers left flatten
 handed (end e) whole same = e.printed whole same
 handed {form} {parts = chunk ∷ rest} (part a h) whole same =

@@ -1,13 +1,14 @@
 -- How known bytes grow and are read, step by step.
 use Rattle.std.specs.Prelude.{Option, None, Some, Result, Ok, Err, OnOk, OnErr, IfSome}
-use Rattle.std.proofs.Common.{◌≡◌, ℕ, ◌+◌, ◌-◌, ◌≤◌, List, [], ◌++◌, length, take, drop, refl, sym, ap, ◌∙◌, subst, append_assoc, arith, length-append, length-drop}
-use Rattle.std.proofs.lemmas.List.{append-nil, drop-take, take-append-drop, take-take, take_all}
-use Rattle.std.specs.Io.KnownBytes.{Appends, Consumes, Keeps, IsAtEnd}
-use Rattle.std.proofs.lemmas.Grind.{common_steps}
-use Rattle.lines.specs.Lines.{answers, header, held, kept, last_answer, left, output}
-use Rattle.lines.specs.Streams.{InputEnded, PartAnswered, PartFailed, StartWritten}
+use Rattle.std.proofs.Common.{◌≡◌, ℕ, ◌+◌, ◌-◌, ◌≤◌, List, [], ◌++◌, length, take, drop, refl, sym, ap, ◌∙◌, subst, append_assoc, arith, length-append, length-drop, ControlFlow}
+use Rattle.std.proofs.lemmas.Bool.{false≢true}
+use Rattle.std.specs.Prelude.{false}
+use Rattle.std.proofs.lemmas.List.{append-nil, take-append-drop, take_all}
+use Rattle.std.specs.Io.KnownBytes.{Appends, Consumes, Keeps, IsAtEnd, ReadConsumes}
+use Rattle.std.specs.Result.{IsErr, is_ok}
+use Rattle.lines.specs.Lines.{answers, header, kept, last_answer, left, output}
+use Rattle.lines.specs.Streams.{InputEnded, OneRead, PartAnswered, PartFailed, StartWritten}
 use Rattle.lines.specs.declared.line.Form.{Form}
-use Rattle.lines.specs.declared.line.Line.{Line}
 use Rattle.lines.proofs.AnswerLaws.{answers_parts, left_parts}
 
 -- ---- a writer's bytes
@@ -63,25 +64,25 @@ start_of_more a b xs ys s =
       appended = s.appended;
     }
 
-start_as : (a b : Option (List ℕ)) {xs ys : List ℕ} → xs ≡ ys → StartWritten a b xs → StartWritten a b ys
+pub start_as : (a b : Option (List ℕ)) {xs ys : List ℕ} → xs ≡ ys → StartWritten a b xs → StartWritten a b ys
 start_as a b {xs} {ys} e s = record { part = s.part; rest = s.rest; cut = sym e ∙ s.cut; appended = s.appended }
 
-pub start_at : (a b : Option (List ℕ)) (bytes : List ℕ) (n : ℕ) → Appends a b (take n bytes) → StartWritten a b bytes
-start_at a b bytes n h = record { part = take n bytes; rest = drop n bytes; cut = sym (take-append-drop n bytes); appended = h }
+-- before the first write
+pub none_written : (a : Option (List ℕ)) (bytes : List ℕ) → (s : StartWritten a a bytes) × (s.rest ≡ bytes)
+none_written a bytes = (record { part = []; rest = bytes; cut = refl; appended = appends_nothing a a (keeps_same a) }, refl)
 
--- so many bytes more
-take_more : (bytes : List ℕ) (n m : ℕ) → n ≤ length bytes → take n bytes ++ take m (take (length bytes - n) (drop n bytes)) ≡ take (n + m) bytes
-take_more bytes n m h =
-    ap (λ (l : List ℕ). take n bytes ++ take m l) (take_all (length bytes - n) (drop n bytes) (omega (arith, length-drop n bytes)))
-    ∙ ap (λ (l : List ℕ). take n bytes ++ l) (sym (drop-take n m bytes)) ∙ ap (λ (l : List ℕ). l ++ drop n (take (n + m) bytes)) (sym (take-take n (n + m) bytes (omega arith)))
-    ∙ take-append-drop n (take (n + m) bytes)
-
-pub length_rest : (bytes : List ℕ) (n : ℕ) → length (take (length bytes - n) (drop n bytes)) ≡ length bytes - n
-length_rest bytes n = grind (arith, common_steps)
-
-pub written_more : (a b c : Option (List ℕ)) (bytes : List ℕ) (n m : ℕ) → n ≤ length bytes → Appends a b (take n bytes)
-    → Appends b c (take m (take (length bytes - n) (drop n bytes))) → Appends a c (take (n + m) bytes)
-written_more a b c bytes n m h k l = appends_as a c (take_more bytes n m h) (appends_more a b c (take n bytes) (take m (take (length bytes - n) (drop n bytes))) k l)
+-- so many bytes more of those that are left
+pub written_on : (a b c : Option (List ℕ)) (bytes rest : List ℕ) (count : ℕ) (s : StartWritten a b bytes) → s.rest ≡ rest → Appends b c (take count rest)
+    → (t : StartWritten a c bytes) × (t.rest ≡ take (length rest - count) (drop count rest))
+written_on a b c bytes rest count s left h = (
+  record {
+    part = s.part ++ take count rest;
+    rest = drop count rest;
+    cut = s.cut ∙ ap (λ (l : List ℕ). s.part ++ l) (left ∙ sym (take-append-drop count rest)) ∙ sym (append_assoc s.part (take count rest) (drop count rest));
+    appended = appends_more a b c s.part (take count rest) s.appended h;
+  },
+  sym (take_all (length rest - count) (drop count rest) (omega (arith, length-drop count rest))),
+)
 
 -- ---- a choice that is known
 
@@ -103,7 +104,7 @@ if_some (Some xs) f = f xs refl
 
 -- ---- a read that fails
 
-pub no_part : (form : Form) (line : Line) (input_old input_new output : Option (List ℕ)) → Keeps input_old input_new
+pub no_part : (form : Form) (line : List ℕ) (input_old input_new output : Option (List ℕ)) → Keeps input_old input_new
     → PartFailed form line input_old input_new output output
 no_part form line input_old input_new output h =
     record {
@@ -112,15 +113,22 @@ no_part form line input_old input_new output h =
       start = λ whole e. kept_start output output (answers form whole []) (keeps_same output);
     }
 
+pub read_failed : {E F : Type 0} (form : Form) (line : List ℕ) (input_old input_new output : Option (List ℕ)) (read : Result ℕ E) (buf : List ℕ)
+    (result : Result (ControlFlow (List ℕ) (List ℕ)) F) → false ≡ is_ok read → ReadConsumes input_old input_new read buf → IsErr result
+    → OneRead form line input_old input_new output output result
+read_failed form line input_old input_new output (Ok n) buf result e h i = absurd (false≢true e)
+read_failed form line input_old input_new output (Err x) buf (Ok y) e h i = absurd (false≢true i)
+read_failed form line input_old input_new output (Err x) buf (Err y) e h i = no_part form line input_old input_new output h
+
 -- ---- the whole input
 
 -- what was read and written after some reads
-pub record Progress (form : Form) (whole : List ℕ) (input output_old output : Option (List ℕ)) (line : Line) (reads : ℕ) : Type 0 where
+pub record Progress (form : Form) (whole : List ℕ) (input output_old output : Option (List ℕ)) (line : List ℕ) (reads : ℕ) : Type 0 where
   pub done : List ℕ
   pub rest : List ℕ
   pub cut : whole ≡ done ++ rest
   pub input_is : input ≡ Some rest
-  pub line_is : held line ≡ kept (left [] done)
+  pub line_is : line ≡ kept (left [] done)
   pub output_is : Appends output_old output (header form ++ answers form [] done)
   pub reads_within : reads ≤ length done
 
@@ -129,7 +137,7 @@ consumed_rest rest chunk None h = absurd h
 consumed_rest rest chunk (Some ys) h = (ys, (refl, h))
 
 module _ (form : Form) (whole : List ℕ) where
-  pub at_first : (input out_old out : Option (List ℕ)) (line : Line) → input ≡ Some whole → held line ≡ [] → Appends out_old out (header form)
+  pub at_first : (input out_old out : Option (List ℕ)) (line : List ℕ) → input ≡ Some whole → line ≡ [] → Appends out_old out (header form)
       → Progress form whole input out_old out line 0
   unfolding answers left
   at_first input out_old out line e empty h =
@@ -166,8 +174,8 @@ module _ (form : Form) (whole : List ℕ) where
   unfolding output
   output_of_done done = refl
 
-  module _ {input out_old out : Option (List ℕ)} {line : Line} {reads : ℕ} (p : Progress form whole input out_old out line reads) where
-    pub one_more : (input_new out_new : Option (List ℕ)) (next : Line) → PartAnswered form line input input_new out out_new next
+  module _ {input out_old out : Option (List ℕ)} {line : List ℕ} {reads : ℕ} (p : Progress form whole input out_old out line reads) where
+    pub one_more : (input_new out_new : Option (List ℕ)) (next : List ℕ) → PartAnswered form line input input_new out out_new next
         → Progress form whole input_new out_old out_new next (reads + 1)
     one_more input_new out_new next a =
         let P : Option (List ℕ) → Type 0 = λ i. Consumes i input_new a.chunk in
@@ -204,7 +212,7 @@ module _ (form : Form) (whole : List ℕ) where
         ap (output form) (sym (p.cut ∙ ap (λ (l : List ℕ). p.done ++ l) none ∙ append-nil p.done))
 
     pub ended : (out_same out_new : Option (List ℕ)) → InputEnded input out out_same
-        → ((line_whole : List ℕ) → held line ≡ kept line_whole → Appends out_same out_new (last_answer form line_whole))
+        → ((line_whole : List ℕ) → line ≡ kept line_whole → Appends out_same out_new (last_answer form line_whole))
         → Appends out_old out_new (output form whole)
     ended out_same out_new e h =
         let P : Option (List ℕ) → Type 0 = λ o. Appends o out_new (last_answer form (left [] p.done)) in
@@ -213,7 +221,7 @@ module _ (form : Form) (whole : List ℕ) where
         (subst P e.same_output (h (left [] p.done) p.line_is)))
 
     pub end_failed : (out_same out_new : Option (List ℕ)) → InputEnded input out out_same
-        → ((line_whole : List ℕ) → held line ≡ kept line_whole → StartWritten out_same out_new (last_answer form line_whole))
+        → ((line_whole : List ℕ) → line ≡ kept line_whole → StartWritten out_same out_new (last_answer form line_whole))
         → StartWritten out_old out_new (output form whole)
     end_failed out_same out_new e h =
         let P : Option (List ℕ) → Type 0 = λ o. StartWritten o out_new (last_answer form (left [] p.done)) in

@@ -10,7 +10,6 @@ use Rattle.line_answers.specs.Sheet.{sheet_line}
 use Rattle.lines.specs.declared.answers.Turn.{Turn}
 use Rattle.lines.specs.declared.line.Form.{Form}
 use Rattle.lines.specs.declared.line.Form.TheVariants as Forms
-use Rattle.lines.specs.declared.line.Line.{Line}
 
 -- `places` and `days` have no header
 unfoldable pub header : Form → List ℕ
@@ -57,25 +56,20 @@ line_room = longest_request + 1
 abbrev pub kept : List ℕ → List ℕ
 kept line = take line_room line
 
-abbrev pub held : Line → List ℕ
-held line = take line.length line.bytes
-
 -- one byte: the answer stands behind the bytes in use
 pub record Stepped (form : Form) (turn : Turn) (byte : ℕ) (entry exit : List ℕ) (next : Turn) : Type 0 where
-  pub line_within : next.line.length ≤ line_room
   pub used_within : next.used ≤ turn.used + text_room
   pub same_room : length exit ≡ length entry
-  pub printed : take next.used exit ≡ take turn.used entry ++ printed_at form (held turn.line) byte
-  pub line : held next.line ≡ kept (line_after (held turn.line) byte)
+  pub printed : take next.used exit ≡ take turn.used entry ++ printed_at form turn.line byte
+  pub line : next.line ≡ kept (line_after turn.line byte)
 
 -- a part of the input, whatever stood before it on its first line
-pub record Answered (form : Form) (before : Line) (chunk out : List ℕ) (next : Turn) : Type 0 where
-  pub line_within : next.line.length ≤ line_room
+pub record Answered (form : Form) (before : List ℕ) (chunk out : List ℕ) (next : Turn) : Type 0 where
   pub used_within : next.used ≤ text_room * length chunk
-  pub printed : (whole : List ℕ) → held before ≡ kept whole → take next.used out ≡ answers form whole chunk
-  pub line : (whole : List ℕ) → held before ≡ kept whole → held next.line ≡ kept (left whole chunk)
+  pub printed : (whole : List ℕ) → before ≡ kept whole → take next.used out ≡ answers form whole chunk
+  pub line : (whole : List ℕ) → before ≡ kept whole → next.line ≡ kept (left whole chunk)
 
 -- the end of the input
-pub record Ended (form : Form) (before : Line) (out : List ℕ) (used : ℕ) : Type 0 where
+pub record Ended (form : Form) (before : List ℕ) (out : List ℕ) (used : ℕ) : Type 0 where
   pub used_within : used ≤ text_room
-  pub printed : (whole : List ℕ) → held before ≡ kept whole → take used out ≡ last_answer form whole
+  pub printed : (whole : List ℕ) → before ≡ kept whole → take used out ≡ last_answer form whole

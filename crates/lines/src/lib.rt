@@ -7,15 +7,16 @@ pub mod answers;
 pub mod line;
 pub mod told;
 
-ghost use Rattle.std.specs.Prelude.{ℕ, List, ◌≡◌, ◌<◌, ◌≤◌, ◌^◌, ◌-◌, length, IfOk, IfSome, OnErr, OnOk};
+ghost use Rattle.std.specs.Prelude.{ℕ, List, ◌≡◌, ◌<◌, ◌^◌, ◌-◌, length, IfSome, OnErr, OnOk};
 ghost use Rattle.std.specs.Io.KnownBytes.{Appends};
-ghost use Rattle.lines.specs.Lines.{header, held, kept, last_answer, line_room, output};
+ghost use Rattle.lines.specs.Lines.{kept, last_answer, output};
 ghost use Rattle.lines.specs.Streams.{OneRead, StartWritten};
 
-use answers::{answer_chunk, answer_last};
-use line::{Form, Line, header, no_line};
+use answers::{Turn, answer_chunk, answer_last};
+use line::{Form, Line};
 use std::io;
 use std::io::{ErrorKind, Input, Read, Write};
+use std::ops::ControlFlow;
 use text::decimal::TEXT_ROOM;
 use told::Failed;
 
@@ -27,58 +28,41 @@ fn write_out<W: Write>(writer: &mut W, bytes: &[u8]) -> Result<(), Failed>
     ensures all { OnOk result (Appends (W.contents writer.old) (W.contents writer.new) bytes.now) }
     ensures start { OnErr result (StartWritten (W.contents writer.old) (W.contents writer.new) bytes.now) }
 {
-    let mut done = 0;
-    while done < bytes.len() {
-        match writer.write(&bytes[done..]) {
+    let mut rest = bytes;
+    while !rest.is_empty() {
+        match writer.write(rest) {
             Ok(0) => return Err(Failed::Output(io::Error::from(ErrorKind::WriteZero))),
-            Ok(count) => done += count,
+            Ok(count) => rest = &rest[count..],
             Err(error) => return Err(Failed::Output(error)),
         }
     }
     Ok(())
 }
 
-fn write_header<W: Write>(form: Form, writer: &mut W) -> Result<(), Failed>
-    ensures all { OnOk result (Appends (W.contents writer.old) (W.contents writer.new) (header form)) }
-    ensures start { OnErr result (StartWritten (W.contents writer.old) (W.contents writer.new) (header form)) }
-{
-    let text = header(form);
-    let bytes = text.bytes;
-    let used = text.length;
-    write_out(writer, &bytes[..used])
-}
-
-// Answers the lines that end in the next part of the input, and gives the line that is left, or nothing at the end of the input.
+// Answers the lines that end in the next part of the input. It goes on with the line that is left, or breaks with the last one at the end of the input.
 fn read_once<R: Read, W: Write>(
     form: Form,
     line: Line,
     reader: &mut R,
     writer: &mut W,
-) -> Result<Option<Line>, Failed>
-    requires { line.length ≤ line_room }
-    ensures within { IfOk result (λ next. IfSome next (λ left. left.length ≤ line_room)) }
-    ensures answered { OneRead form line (R.remaining reader.old) (R.remaining reader.new) (W.contents writer.old) (W.contents writer.new) result }
+) -> Result<ControlFlow<Line, Line>, Failed>
+    ensures { OneRead form line (R.remaining reader.old) (R.remaining reader.new) (W.contents writer.old) (W.contents writer.new) result }
 {
     let mut part = [0; PART];
-    let count = match reader.read(&mut part) {
-        Ok(count) => count,
-        Err(error) => return Err(Failed::Input(error)),
-    };
+    let count = reader.read(&mut part).map_err(Failed::Input)?;
     if count == 0 {
-        return Ok(None);
+        return Ok(ControlFlow::Break(line));
     }
     let mut out = [0; PART * TEXT_ROOM];
-    let turn = answer_chunk(form, line, &part[..count], &mut out);
-    let used = turn.used;
+    let Turn { line, used } = answer_chunk(form, line, &part[..count], &mut out);
     write_out(writer, &out[..used])?;
-    Ok(Some(turn.line))
+    Ok(ControlFlow::Continue(line))
 }
 
 // Answers a last line that has no newline.
-fn finish<W: Write>(form: Form, line: Line, writer: &mut W) -> Result<(), Failed>
-    requires { line.length ≤ line_room }
-    ensures all { OnOk result ((whole : List ℕ) → held line ≡ kept whole → Appends (W.contents writer.old) (W.contents writer.new) (last_answer form whole)) }
-    ensures start { OnErr result ((whole : List ℕ) → held line ≡ kept whole → StartWritten (W.contents writer.old) (W.contents writer.new) (last_answer form whole)) }
+fn finish<W: Write>(form: Form, line: &Line, writer: &mut W) -> Result<(), Failed>
+    ensures all { OnOk result ((whole : List ℕ) → line.now ≡ kept whole → Appends (W.contents writer.old) (W.contents writer.new) (last_answer form whole)) }
+    ensures start { OnErr result ((whole : List ℕ) → line.now ≡ kept whole → StartWritten (W.contents writer.old) (W.contents writer.new) (last_answer form whole)) }
 {
     let mut out = [0; TEXT_ROOM];
     let used = answer_last(form, line, &mut out);
@@ -97,12 +81,12 @@ pub fn answer_all<R: Read, W: Write>(
     ensures start { OnErr result (IfSome (R.remaining reader.old) (λ input.
         StartWritten (W.contents writer.old) (W.contents writer.new) (output form input))) }
 {
-    write_header(form, writer)?;
-    let mut line = no_line();
+    write_out(writer, form.header())?;
+    let mut line = Line::new();
     for _ in 0..u64::MAX {
         match read_once(form, line, reader, writer)? {
-            Some(next) => line = next,
-            None => return finish(form, line, writer),
+            ControlFlow::Continue(next) => line = next,
+            ControlFlow::Break(last) => return finish(form, &last, writer),
         }
     }
     Ok(())
