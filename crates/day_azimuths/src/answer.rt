@@ -1,10 +1,7 @@
 // The answer to a request for a day's azimuths: into a lent buffer, or the one refusal.
-ghost use Rattle.std.specs.Prelude.{true, ◌++◌, ◌≡◌, ◌≤◌, drop, length};
+ghost use Rattle.std.specs.Prelude.{◌≡◌, length};
 ghost use Rattle.calendar.specs.Refusal.{OneAnswer, first, verdict_number};
-ghost use Rattle.day.specs.Date.{day_refusals};
-ghost use Rattle.strip.specs.Checks.{is_step, steps};
 ghost use Rattle.day_azimuths.specs.Answer.{azimuths_answer, azimuths_refusals, day_azimuths, left_in, step_refusals};
-ghost use Rattle.day_azimuths.specs.Azimuths.{worked};
 ghost use Rattle.day_azimuths.specs.Demand3.{AzimuthsNear};
 
 use super::steps::fill;
@@ -31,21 +28,8 @@ fn azimuths_verdict(date: Date, point: Point, step: i64, room: usize) -> Result<
     step_verdict(step, room)
 }
 
-// The azimuths of an accepted day; how many there are. What the day has in common is worked once.
-fn work(date: Date, body: Body, point: Point, step: i64, azimuths: &mut [u32]) -> usize
-    requires day_value { first (day_refusals date point) ≡ 0 }
-    requires step_value { (is_step step ≡ true) × (steps step ≤ length azimuths.old) }
-    ensures value { result ≡ steps step }
-    ensures azimuths_after { azimuths.new ≡ worked date body point step ++ drop (steps step) azimuths.old }
-{
-    let course = Course::new(date, body, point);
-    let count = steps_of(step);
-    fill(course, step as usize, &mut azimuths[..count]);
-    count
-}
-
 // The azimuths of a day at a step of 1, 2, 5 or 10 minutes, in 10⁻⁷ degree from north over east. Entries behind the last step are left alone, and nothing is written before the
-// request is judged.
+// request is judged; then what the day has in common is worked once.
 pub fn day_azimuths(
     date: Date,
     body: Body,
@@ -58,5 +42,8 @@ pub fn day_azimuths(
     ensures azimuths_near { AzimuthsNear date point step (length azimuths.old) }
 {
     azimuths_verdict(date, point, step, azimuths.len())?;
-    Ok(work(date, body, point, step, azimuths))
+    let course = Course::new(date, body, point);
+    let count = steps_of(step);
+    fill(course, step as usize, &mut azimuths[..count]);
+    Ok(count)
 }

@@ -10,7 +10,7 @@ use day::curve::MINUTES;
 use request::point::point_verdict;
 use sky_vectors::station::Point;
 
-// The first number that is no azimuth, and the mark of an absent one.
+// The first number that is no azimuth, and the mark of an absent one, as the octets of a strip have them; who reads them gives an Option.
 pub const FULL_TURN: u32 = 3_600_000_000;
 
 pub const ABSENT: u32 = 4_294_967_295;

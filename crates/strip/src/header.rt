@@ -38,6 +38,7 @@ pub const LENGTH: usize = 2;
 
 pub const VERSION: u32 = 1;
 
+// The body of an octet. No From: neither type is of this crate, and in that of Body an octet means nothing.
 fn body_in(byte: u32) -> Body
     ensures { result ≡ body_in byte }
 {

@@ -19,12 +19,16 @@ stated octets = get_or (fields octets) 0 0
 unfoldable pub length_agrees : List ℕ → Bool
 length_agrees octets = leb length_size (length octets) && (leb header_follows (stated octets) && eqb (stated octets) (length octets - length_size))
 
--- 20 at odds with the step, judged only once 21 to 25 have passed; 26
-abbrev pub step_refusals : List ℕ → ℕ → ℤ → List ℕ
-step_refusals octets length step =
+-- 20 at odds with the step, judged only once 21 to 25 have passed; 26, of the azimuth octets
+abbrev pub part_refusals : List ℕ → ℕ → ℤ → List ℕ
+part_refusals part length step =
     20 unless eqb length (header_follows + azimuth_size * steps step)
-    ∷ 26 unless are_azimuths (azimuths_in (azimuth_part octets))
+    ∷ 26 unless are_azimuths (azimuths_in part)
     ∷ []
+
+-- the same, of a whole strip
+abbrev pub step_refusals : List ℕ → ℕ → ℤ → List ℕ
+step_refusals octets length step = part_refusals (azimuth_part octets) length step
 
 -- 22: air or body byte, each 0 or 1
 abbrev pub are_codes : ℕ → ℕ → Bool

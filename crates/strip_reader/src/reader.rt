@@ -3,7 +3,7 @@ ghost use Rattle.std.specs.Prelude.{true, ◌≡◌, ◌≤◌, length};
 ghost use Rattle.calendar.specs.Refusal.{OneAnswer, first, verdict_number};
 ghost use Rattle.strip.specs.Checks.{are_azimuths, is_step};
 ghost use Rattle.strip.specs.Format.{azimuths_in, fields, header_in, header_size};
-ghost use Rattle.strip_reader.specs.Reading.{are_codes, azimuth_at, read, read_answer, read_refusals, step_refusals};
+ghost use Rattle.strip_reader.specs.Reading.{are_codes, azimuth_at, part_refusals, read, read_answer, read_refusals};
 
 use calendar::refusal::{Refusal, StripRefusal, unless};
 use octets::number::number_at;
@@ -32,19 +32,16 @@ fn are_codes(air: u32, body: u32) -> bool
     air <= 1 && body <= 1
 }
 
-// 20 against the step, then 26; the step has passed.
-fn step_verdict(strip: &[u8], stated: usize, step: i64) -> Result<(), Refusal>
-    requires { (header_size ≤ length strip.now) × (is_step step ≡ true) }
-    ensures { verdict_number result ≡ first (step_refusals strip.now stated step) }
+// 20 against the step, then 26, of the azimuth octets; the step has passed.
+fn step_verdict(part: &[u8], stated: usize, step: i64) -> Result<(), Refusal>
+    requires { is_step step ≡ true }
+    ensures { verdict_number result ≡ first (part_refusals part.now stated step) }
 {
     unless(
         Refusal::Strip(StripRefusal::Length),
         stated == HEADER - LENGTH + AZIMUTH * steps_of(step),
     )?;
-    unless(
-        Refusal::Strip(StripRefusal::Azimuth),
-        are_azimuths(&strip[HEADER..]),
-    )
+    unless(Refusal::Strip(StripRefusal::Azimuth), are_azimuths(part))
 }
 
 // All of the reader's checks, of a strip that has the octets of a header.
@@ -64,7 +61,7 @@ fn read_verdict(strip: &[u8], numbers: &[u32; FIELDS], header: Header) -> Result
         are_codes(numbers[2], numbers[3]),
     )?;
     header_verdict(header)?;
-    step_verdict(strip, stated, header.step)
+    step_verdict(&strip[HEADER..], stated, header.step)
 }
 
 // What a strip says beside its azimuths, which are judged and stay where they are; or the first refusal.

@@ -13,9 +13,10 @@ use Rattle.calendar.proofs.RefusalLaws.{exit, passed, passed_all, refused, refus
 use Rattle.calendar.specs.Refusal.{◌unless◌, first, verdict_number}
 use Rattle.strip.proofs.CheckLaws.{header_passes}
 use Rattle.strip.specs.Checks.{header_refusals, is_step}
-use Rattle.strip.specs.Format.{fields, header_in, length_size, version}
+use Rattle.strip.specs.Format.{fields, header_in, header_size, length_size, version}
 use Rattle.strip.specs.declared.header.Header.{Header}
-use Rattle.strip_reader.specs.Reading.{are_codes, length_agrees, stated, step_refusals}
+use Rattle.text.proofs.LineLaws.{to_end}
+use Rattle.strip_reader.specs.Reading.{are_codes, length_agrees, part_refusals, stated, step_refusals}
 use Rattle.strip_reader.proofs.ReadLaws.{length_test}
 use Rattle.strip_reader.proofs.reader.read_verdict.Goals as goal
 use Rattle.strip_reader.proofs.reader.read_verdict.Goals.{After-header_verdict, After-unless, After-unless-2, After-unless-3, Start}
@@ -114,7 +115,7 @@ step_verdict-requires c =
     let g = goal.at.step_verdict-requires c in
     let octets = c.args.strip.now in
     let none = sym (told_header g.After-header_verdict) ∙ ap verdict_number c.in_ok-header_verdict.was in
-    (c.requires.header_size_in_bounds, ap is_step (step_is g.Start) ∙ (header_passes (header octets) none).step_passes)
+    ap is_step (step_is g.Start) ∙ (header_passes (header octets) none).step_passes
 
 pub returns : goal.returns
 returns c =
@@ -124,4 +125,4 @@ returns c =
     (passed (after_version octets) c.in_ok-unless-2.was (told_version g.After-unless-2)
     (passed (after_codes octets) c.in_ok-unless-3.was (told_codes g.After-unless-3)
     (passed_all (header_refusals (header octets)) (by_step octets) c.in_ok-header_verdict.was (told_header g.After-header_verdict)
-    (c.step_verdict.ensures ∙ (λ i. first (step_refusals octets (get_or (numbers_are g.Start i) 0 0) (step_is g.Start i)))))))
+    (c.step_verdict.ensures ∙ (λ i. first (part_refusals (to_end octets header_size i) (get_or (numbers_are g.Start i) 0 0) (step_is g.Start i)))))))

@@ -9,8 +9,7 @@ use Rattle.calendar.specs.Refusal.{◌unless◌, verdict_number}
 use Rattle.numbers.proofs.Machine.{any}
 use Rattle.strip.proofs.CheckLaws.{steps_most}
 use Rattle.strip.specs.Checks.{are_azimuths, steps}
-use Rattle.strip.specs.Format.{azimuth_part, azimuth_size, azimuths_in, header_follows, header_size}
-use Rattle.text.proofs.LineLaws.{to_end}
+use Rattle.strip.specs.Format.{azimuth_size, azimuths_in, header_follows}
 use Rattle.strip_reader.proofs.reader.step_verdict.Goals as goal
 use Rattle.strip_reader.proofs.reader.step_verdict.Goals.{After-steps_of, After-unless}
 
@@ -30,15 +29,14 @@ by_length c =
     c.unless.ensures ∙ ap (λ (n : ℕ). 20 unless eqb c.args.stated (header_follows + azimuth_size * n)) (counted (goal.at.After-unless c).After-steps_of)
 
 abbrev after_length : List ℕ → List ℕ
-after_length octets = 26 unless are_azimuths (azimuths_in (azimuth_part octets)) ∷ []
+after_length part = 26 unless are_azimuths (azimuths_in part) ∷ []
 
 pub returns-in_err-unless : goal.returns-in_err-unless
 returns-in_err-unless c =
     exit c.from_residual.result c.in_err-unless.field-0.0 c.from_residual.ensures
-    (refused (after_length c.args.strip.now) c.in_err-unless.was (by_length (goal.at.returns-in_err-unless c).After-unless))
+    (refused (after_length c.args.part.now) c.in_err-unless.was (by_length (goal.at.returns-in_err-unless c).After-unless))
 
 pub returns : goal.returns
 returns c =
-    let octets = c.args.strip.now in
-    passed (after_length octets) c.in_ok-unless.was (by_length (goal.at.returns c).After-unless)
-    (check 26 c.unless-2.ensures (c.are_azimuths.ensures ∙ ap (λ (part : List ℕ). are_azimuths (azimuths_in part)) (to_end octets header_size)))
+    passed (after_length c.args.part.now) c.in_ok-unless.was (by_length (goal.at.returns c).After-unless)
+    (check 26 c.unless-2.ensures c.are_azimuths.ensures)
