@@ -6,9 +6,9 @@ use lib.Ieee.{Float}
 use lib.Dec.{eqb}
 use Rattle.std.specs.Prelude.{None, Option, Result, Some}
 use borrow.Author.Tests.{eq-eqb, eqb-true, ne_eqb}
-use Rattle.calendar.specs.Refusal.{OneAnswer, first, number}
+use Rattle.calendar.specs.Refusal.{OneAnswer, first}
 use Rattle.calendar.specs.declared.refusal.Refusal.{Refusal}
-use Rattle.calendar.proofs.RefusalLaws.{never_none, numbered, one_answer, read_back, result_tells}
+use Rattle.calendar.proofs.RefusalLaws.{one_answer, result_tells}
 use Rattle.refraction.specs.declared.air.Air.{Air}
 use Rattle.request.specs.Request.{instant}
 use Rattle.request.specs.declared.start.Start.{Start}
@@ -51,17 +51,6 @@ module _ {A : Type 0} (refusal : ℕ) (zeros value : A) where
   not_refused e =
       let none : refusal ≡ 0 = sym (judged_refusal refusal zeros value) ∙ sym (ap (λ (a : Answer A). a.refusal) e) in
       (none, ap (λ (a : Answer A). a.value) (e ∙ judged_value refusal zeros value none))
-
--- an enum that is a value or a refusal, from its answer: what comes back from it is told apart by it
-module _ {E A : Type 0} (given : A → E) (refused : Refusal → E) where
-  abbrev pub from_answer : Answer A → E
-  from_answer a = cond (eqb a.refusal 0) (given a.value) (refused (numbered a.refusal))
-
-  pub refused_back : (zeros : A) (r : Refusal) → from_answer (record { refusal = number r; value = zeros }) ≡ refused r
-  refused_back zeros r = rw (ne_eqb (number r) 0 (never_none r)) (ap refused (read_back r))
-
-  pub one_from : {answer : E → Answer A} → ((x : E) → from_answer (answer x) ≡ x) → {found : E} {rule : Answer A} → answer found ≡ rule → OneAnswer answer rule found
-  one_from back = one_answer (λ x y same. sym (back x) ∙ ap from_answer same ∙ back y)
 
 -- a result whose values are told apart by their numbers is told apart by its answer
 pub one_answered : {A B : Type 0} {numbers : A → B} {zeros : B} → ((x y : A) → numbers x ≡ numbers y → x ≡ y)

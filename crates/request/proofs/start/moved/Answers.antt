@@ -2,7 +2,7 @@
 use borrow.Author.Rules.{rules}
 use mir.Syntax.{w64}
 use mir.Val.{SFits}
-use Rattle.numbers.proofs.Machine.{Mirror, ◌⊕◌, any, bounded, fits, kept}
+use Rattle.numbers.proofs.Machine.{Mirror, ◌⊕◌, any, bounded, kept}
 use Rattle.request.proofs.start.moved.Goals as goal
 use Rattle.request.proofs.start.moved.Goals.{Start}
 
@@ -18,12 +18,6 @@ module _ (s : Start) where
 
   abbrev tt₀ : Mirror
   tt₀ = bounded (any tt_fits ⊕ any s.ranges.units) s.requires.tt_near
-
-pub overflow_add-ut : goal.overflow_add-ut
-overflow_add-ut c = fits (ut (goal.at.overflow_add-ut c).Start) tt
-
-pub overflow_add-tt : goal.overflow_add-tt
-overflow_add-tt c = fits (tt₀ (goal.at.overflow_add-tt c).Start) tt
 
 pub returns : goal.returns
 returns c =
