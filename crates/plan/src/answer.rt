@@ -6,7 +6,7 @@ ghost use Rattle.calendar.specs.Refusal.{OneAnswer, first};
 ghost use Rattle.plan.specs.Answer.{azimuths_left, minutes_left, planning, planning_answer};
 ghost use Rattle.plan.specs.Plan.{EachMinute, day_azimuths, is_possible};
 
-use super::planner::put_points;
+use super::planner::Planner;
 use calendar::refusal::Refusal;
 use day::course::Course;
 use day::curve::{MINUTES, fill};
@@ -54,5 +54,9 @@ pub fn plan(
     if !is_possible(&day) {
         return Ok(None);
     }
-    Ok(Some(put_points(&day, tolerance, minutes, azimuths)))
+    let planner = Planner {
+        day: &day,
+        tolerance,
+    };
+    Ok(Some(planner.put_points(minutes, azimuths)))
 }

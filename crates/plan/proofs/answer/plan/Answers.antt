@@ -48,11 +48,11 @@ returns-then-not-is_possible c =
       day_near = every_day_near a.date a.point;
     }
 
-pub put_points-requires-clause-plannable : goal.put_points-requires-clause-plannable
-put_points-requires-clause-plannable c =
+pub invariant_of-planner : goal.invariant_of-planner
+invariant_of-planner c =
     let a = c.args in
-    let k = (goal.at.put_points-requires-clause-plannable c).After-is_possible in
-    subst⁻¹ Plannable c.work.ensures (plannable (day k) (day_whole a.date a.body a.point) (judged k ∙ c.if-not-is_possible.false))
+    let k = (goal.at.invariant_of-planner c).After-is_possible in
+    record { plannable = subst⁻¹ Plannable c.work.ensures (plannable (day k) (day_whole a.date a.body a.point) (judged k ∙ c.if-not-is_possible.false)) }
 
 pub returns : goal.returns
 returns c =

@@ -4,13 +4,13 @@ use Rattle.day.specs.Curve.{last_minute}
 use Rattle.turning_points.specs.Points.{signed_at}
 use Rattle.plan.specs.Plan.{turning}
 use Rattle.plan.proofs.FillLaws.{Filled}
-use Rattle.plan.proofs.planner.put_points.Given as goal
+use Rattle.plan.proofs.planner.Planner.put_points.Given as goal
 
 abbrev pub invariant-loop-minute : goal.invariant-loop-minute
 invariant-loop-minute l =
-    (l.minute ≡ turning l.tolerance l.day l.index) × ((i : ℕ) → i < l.index → turning l.tolerance l.day i < last_minute)
-    × Filled (turning l.tolerance l.day) l.initial.minutes l.minutes l.index
-    × Filled (λ i. signed_at l.day (turning l.tolerance l.day i)) l.initial.azimuths l.azimuths l.index
+    (l.minute ≡ turning l.self.tolerance l.self.day.now l.index) × ((i : ℕ) → i < l.index → turning l.self.tolerance l.self.day.now i < last_minute)
+    × Filled (turning l.self.tolerance l.self.day.now) l.initial.minutes l.minutes l.index
+    × Filled (λ i. signed_at l.self.day.now (turning l.self.tolerance l.self.day.now i)) l.initial.azimuths l.azimuths l.index
 
 abbrev pub decreases-loop-minute : goal.decreases-loop-minute
 decreases-loop-minute l = last_minute - l.minute

@@ -3,7 +3,7 @@ use mathlib.Core.Path.{◌≡◌}
 use Prim.Native.Nat.{◌≤◌, ℕ}
 use Rattle.day.specs.Curve.{last_minute}
 use Rattle.plan.specs.Plan.{reaches}
-use Rattle.plan.proofs.planner.farthest.Given as goal
+use Rattle.plan.proofs.planner.Planner.farthest.Given as goal
 
 abbrev pub invariant-loop-last : goal.invariant-loop-last
-invariant-loop-last l = (e : ℕ) → l.last ≤ e → e ≤ last_minute → reaches l.tolerance l.day l.first e ≡ false
+invariant-loop-last l = (e : ℕ) → l.last ≤ e → e ≤ last_minute → reaches l.self.tolerance l.self.day.now l.first e ≡ false
