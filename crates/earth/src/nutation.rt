@@ -73,7 +73,7 @@ pub struct Nutation {
     pub obliquity: i64,
 }
 
-// X0 to X4.
+// X0 to X4. Five calls, as in `moon_sums`: with `map` over the five polynomials the proof did not close.
 fn arguments(t: Powers) -> [i64; 5]
     requires { Reached t }
     ensures { result ≡ arguments t.n }

@@ -111,7 +111,8 @@ pub struct MoonPlace {
     pub metres: i64,
 }
 
-// L', D, M, M', F.
+// L', D, M, M', F. An array, held together as 01 says, so that its bound (`Turns`) is a clause.
+// Five calls, as in `earth`: with `map` over the five polynomials the proof did not close.
 pub fn arguments(t: Powers) -> [i64; 5]
     requires { Reached t }
     ensures { result ≡ arguments t.n }

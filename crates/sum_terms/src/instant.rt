@@ -39,7 +39,7 @@ pub fn instant_at(days: i64, elapsed: i64, ut1: i64, delta: i64) -> Instant
     Instant { ut, tt }
 }
 
-// u, p2, p3 and p4.
+// u, p2, p3 and p4. `powers` of specs/ makes them of every n, so `Powers` holds no bound: the sums ask for `Reached`.
 pub fn powers_at(n: i64) -> Powers
     requires { nat_abs n ≤ furthest }
     ensures { result ≡ powers n }

@@ -22,7 +22,7 @@ pub struct SunSums {
     pub radius: i64,
 }
 
-// C τ in 10⁻⁸ radian.
+// C τ in 10⁻⁸ radian. n is a plain number, as `sun` is handed one, so that its bound is a clause.
 fn phase(n: i64, c: u64) -> i64
     requires { (nat_abs n ≤ furthest) × (c ≤ 2 ^ 44) }
     ensures { result ≡ phase n c }

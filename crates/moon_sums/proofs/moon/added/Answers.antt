@@ -15,9 +15,6 @@ product c =
     kept (factor c.before) tt
     ⊗ gave c.sine.type_inv (c.sine.ensures ∙ ap sine (any c.ranges.angle).same) (sine_most c.args.angle)
 
-pub overflow_mul-result : goal.overflow_mul-result
-overflow_mul-result c = fits (factor c) tt
-
 pub overflow_mul-result-2 : goal.overflow_mul-result-2
 overflow_mul-result-2 c = fits (product c) tt
 

@@ -81,9 +81,6 @@ overflow_add-result c = fits (sum1 c) tt
 pub overflow_add-result-2 : goal.overflow_add-result-2
 overflow_add-result-2 c = fits (sum2 c) tt
 
-pub overflow_sub-a1 : goal.overflow_sub-a1
-overflow_sub-a1 c = fits (a1_less_F (from2 c)) tt
-
 pub overflow_add-result-3 : goal.overflow_add-result-3
 overflow_add-result-3 c = fits (sum3 c) tt
 

@@ -44,9 +44,6 @@ sum3 c =
 pub overflow_add-result : goal.overflow_add-result
 overflow_add-result c = fits (sum1 (goal.at.overflow_add-result c).After-added) tt
 
-pub overflow_sub-mean : goal.overflow_sub-mean
-overflow_sub-mean c = fits (L'_less_F (from1 (goal.at.overflow_sub-mean c).After-added)) tt
-
 pub overflow_add-result-2 : goal.overflow_add-result-2
 overflow_add-result-2 c = fits (sum2 (goal.at.overflow_add-result-2 c).After-added-2) tt
 

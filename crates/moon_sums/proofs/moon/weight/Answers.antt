@@ -4,7 +4,7 @@ use Prim.Native.Nat.{suc, zero, ℕ}
 use native.Mathlib.Omega.{arith}
 use lib.IntN.{◌*ℤ◌, nat_abs, pos, ℤ}
 use Rattle.arithmetic.specs.Floor.{⌊◌÷◌⌋}
-use Rattle.numbers.proofs.Machine.{Mirror, ◌⊗◌, floor_gave, kept, lit, told}
+use Rattle.numbers.proofs.Machine.{Mirror, ◌⊗◌, fits, floor_gave, kept, lit, told}
 use Rattle.sum_rules.specs.Moon.{weight}
 use Rattle.sum_rules.specs.declared.moon.Eccentricity.{Eccentricity}
 use Rattle.sum_terms.proofs.NarrowMirror.{narrow_same}
@@ -34,6 +34,12 @@ module _ (c : After-unsigned_abs) where
   -- the weight by the size of m
   by_multiple : weight c.args.e c.unsigned_abs.result c.args.l ≡ weight c.args.e (nat_abs c.args.m) c.args.l
   by_multiple = ap (λ (m : ℕ). weight c.args.e m c.args.l) (c.unsigned_abs.ensures.value ∙ ap nat_abs (narrow_same c.args.m c.requires.1.0 tt))
+
+pub overflow_mul-l : goal.overflow_mul-l
+overflow_mul-l c = fits (by_e (goal.at.overflow_mul-l c).After-unsigned_abs) tt
+
+pub overflow_mul-l-in_default : goal.overflow_mul-l-in_default
+overflow_mul-l-in_default c = fits (by_e2 (goal.at.overflow_mul-l-in_default c).After-unsigned_abs) tt
 
 pub returns-in-0 : goal.returns-in-0
 unfolding weight

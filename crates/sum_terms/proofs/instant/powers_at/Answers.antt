@@ -33,9 +33,6 @@ returns c = λ i. record {
   p4 = (p4_mirror (goal.at.returns c).After-floor_div-p4).same i;
 }
 
-pub overflow_mul-n : goal.overflow_mul-n
-overflow_mul-n c = fits (scaled (goal.at.overflow_mul-n c).Start) tt
-
 pub overflow_mul-u : goal.overflow_mul-u
 overflow_mul-u c = fits (u_mirror (goal.at.overflow_mul-u c).After-floor_div-u ⊗ u_mirror (goal.at.overflow_mul-u c).After-floor_div-u) tt
 

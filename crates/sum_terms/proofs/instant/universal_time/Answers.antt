@@ -1,7 +1,7 @@
 -- `sum_terms::instant::universal_time` meets its contract.
 use Prim.Native.Nat.{◌/◌}
 use lib.IntN.{pos}
-use Rattle.numbers.proofs.Machine.{Mirror, ◌⊕◌, ◌⊖◌, ◌⊗◌, arg, fits, kept, lit}
+use Rattle.numbers.proofs.Machine.{Mirror, ◌⊕◌, ◌⊖◌, ◌⊗◌, arg, kept, lit}
 use Rattle.sum_rules.specs.Instant.{day}
 use Rattle.sum_terms.proofs.instant.universal_time.Goals as goal
 use Rattle.sum_terms.proofs.instant.universal_time.Goals.{Start}
@@ -17,18 +17,6 @@ with_day c = kept (from_noon c) tt ⊕ arg c.ranges.elapsed c.requires.1.0
 
 abbrev sum : Start → Mirror
 sum c = kept (with_day c) tt ⊕ arg c.ranges.ut1 c.requires.1.1
-
-pub overflow_mul-result : goal.overflow_mul-result
-overflow_mul-result c = fits (days_part c) tt
-
-pub overflow_sub-result : goal.overflow_sub-result
-overflow_sub-result c = fits (from_noon c) tt
-
-pub overflow_add-result : goal.overflow_add-result
-overflow_add-result c = fits (with_day c) tt
-
-pub overflow_add-result-2 : goal.overflow_add-result-2
-overflow_add-result-2 c = fits (sum c) tt
 
 pub returns : goal.returns
 returns c = (kept (sum c) tt).same

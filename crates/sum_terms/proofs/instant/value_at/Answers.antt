@@ -94,23 +94,11 @@ mul_div-first-requires c = mul_div_asked (c1_mirror (goal.at.mul_div-first-requi
 pub overflow_mul-p : goal.overflow_mul-p
 overflow_mul-p c = fits (second_product (from_first (goal.at.overflow_mul-p c).After-mul_div-first)) tt
 
-pub overflow_mul-p-2 : goal.overflow_mul-p-2
-overflow_mul-p-2 c = fits (third_factor (from_first (from_second (goal.at.overflow_mul-p-2 c).After-floor_div-second))) tt
-
 pub overflow_mul-p-3 : goal.overflow_mul-p-3
 overflow_mul-p-3 c = fits (third_product (from_first (from_second (goal.at.overflow_mul-p-3 c).After-floor_div-second))) tt
 
-pub floor_div-third-requires : goal.floor_div-third-requires
-floor_div-third-requires c = (from_first (from_second (goal.at.floor_div-third-requires c).After-floor_div-second)).requires.0.k3_above
-
-pub overflow_mul-p-4 : goal.overflow_mul-p-4
-overflow_mul-p-4 c = fits (fourth_factor (from_first (from_second (from_third (goal.at.overflow_mul-p-4 c).After-floor_div-third)))) tt
-
 pub overflow_mul-p-5 : goal.overflow_mul-p-5
 overflow_mul-p-5 c = fits (fourth_product (from_first (from_second (from_third (goal.at.overflow_mul-p-5 c).After-floor_div-third)))) tt
-
-pub floor_div-fourth-requires : goal.floor_div-fourth-requires
-floor_div-fourth-requires c = (from_first (from_second (from_third (goal.at.floor_div-fourth-requires c).After-floor_div-third))).requires.0.k4_above
 
 pub overflow_cast-result : goal.overflow_cast-result
 overflow_cast-result c = nat_fits (units_small (goal.at.overflow_cast-result c).After-new) tt

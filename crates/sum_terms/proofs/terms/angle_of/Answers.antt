@@ -1,18 +1,13 @@
 -- `sum_terms::terms::angle_of` meets its contract: five products, added one by one.
 use mathlib.Core.Path.{refl}
 use Prim.Native.Nat.{ℕ}
-use mir.Syntax.{w32, w64}
-use mir.Val.{SFits, of_z, to_z}
 use Rattle.numbers.proofs.Machine.{Mirror, ◌⊕◌, ◌⊗◌, fits, kept, told}
 use Rattle.sum_rules.specs.Table.{column}
-use Rattle.sum_terms.proofs.NarrowMirror.{narrow, widened}
+use Rattle.sum_terms.proofs.NarrowMirror.{narrow}
 use Rattle.sum_terms.proofs.terms.angle_of.Goals as goal
 use Rattle.sum_terms.proofs.terms.angle_of.Goals.{After-result-10-1, After-result-2-1, After-result-4-1, After-result-6-1, After-result-8-1, Start}
 
 module _ (s : Start) where
-  widens : (i : ℕ) → SFits w64 (to_z w32 (of_z w32 (column s.args.multiples i)))
-  widens i = widened (column s.args.multiples i) (s.requires.1.below i) tt
-
   abbrev product : ℕ → Mirror
   product i = narrow (column s.args.multiples i) (s.requires.1.below i) tt ⊗ told {r = column s.args.arguments i} refl (s.requires.0.below i) tt
 
@@ -44,14 +39,8 @@ from3 c = from2 c.before.before
 abbrev from4 : After-result-10-1 → Start
 from4 c = from3 c.before.before
 
-pub overflow_cast-result : goal.overflow_cast-result
-overflow_cast-result c = widens c.before 0
-
 pub overflow_mul-result : goal.overflow_mul-result
 overflow_mul-result c = fits (product (from0 c) 0) tt
-
-pub overflow_cast-result-2 : goal.overflow_cast-result-2
-overflow_cast-result-2 c = widens (from0 c.before) 1
 
 pub overflow_mul-result-2 : goal.overflow_mul-result-2
 overflow_mul-result-2 c = fits (product (from1 c) 1) tt
@@ -59,26 +48,17 @@ overflow_mul-result-2 c = fits (product (from1 c) 1) tt
 pub overflow_add-result : goal.overflow_add-result
 overflow_add-result c = fits (sum1 (from1 c)) tt
 
-pub overflow_cast-result-3 : goal.overflow_cast-result-3
-overflow_cast-result-3 c = widens (from1 c.before) 2
-
 pub overflow_mul-result-3 : goal.overflow_mul-result-3
 overflow_mul-result-3 c = fits (product (from2 c) 2) tt
 
 pub overflow_add-result-2 : goal.overflow_add-result-2
 overflow_add-result-2 c = fits (sum2 (from2 c)) tt
 
-pub overflow_cast-result-4 : goal.overflow_cast-result-4
-overflow_cast-result-4 c = widens (from2 c.before) 3
-
 pub overflow_mul-result-4 : goal.overflow_mul-result-4
 overflow_mul-result-4 c = fits (product (from3 c) 3) tt
 
 pub overflow_add-result-3 : goal.overflow_add-result-3
 overflow_add-result-3 c = fits (sum3 (from3 c)) tt
-
-pub overflow_cast-result-5 : goal.overflow_cast-result-5
-overflow_cast-result-5 c = widens (from3 c.before) 4
 
 pub overflow_mul-result-5 : goal.overflow_mul-result-5
 overflow_mul-result-5 c = fits (product (from4 c) 4) tt

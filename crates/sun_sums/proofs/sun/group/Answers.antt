@@ -1,14 +1,13 @@
 -- `sun_sums::sun::group` meets its contract. The invariant: the sum is that of the rows before the index; n stands in it by its bits.
-use mathlib.Core.Path.{◌∙◌, ap, refl}
+use mathlib.Core.Path.{refl}
 use Prim.Native.Nat.{zero-le}
 use native.Mathlib.Omega.{arith}
 use lib.IntN.{ℤ}
 use mir.Syntax.{w64}
 use mir.Val.{of_z, to_z}
-use Rattle.numbers.proofs.Machine.{any, handed}
-use Rattle.sum_rules.specs.Sun.{group, row_value}
+use Rattle.sum_rules.specs.Sun.{row_value}
 use Rattle.sum_rules.specs.Table.{total}
-use Rattle.sum_terms.proofs.SumLoop.{Next, all_added, next}
+use Rattle.sum_terms.proofs.SumLoop.{Next, next}
 use Rattle.sun_sums.proofs.SunLaws.{group_summing}
 use Rattle.sun_sums.proofs.sun.group.Goals as goal
 use Rattle.sun_sums.proofs.sun.group.Goals.{After-row_value-sum, Start}
@@ -30,17 +29,8 @@ pub loop-row-init : goal.loop-row-init
 unfolding total
 loop-row-init c = (zero-le, refl)
 
-pub row_value-sum-requires : goal.row_value-sum-requires
-row_value-sum-requires c = (handed c.ranges.n c.requires.0, c.requires.1.each c.loop-row.row-index c.loop-row-test.true)
-
 pub overflow_add-sum : goal.overflow_add-sum
 overflow_add-sum c = (sum_next (goal.at.overflow_add-sum c).After-row_value-sum).fit
 
 pub loop-row-preserved : goal.loop-row-preserved
 loop-row-preserved c = (omega (arith, c.loop-row-test.true), (sum_next (goal.at.loop-row-preserved c).After-row_value-sum).is)
-
-pub returns : goal.returns
-returns c =
-    let t = c.loop-row in
-    all_added (row_value (to_z w64 (of_z w64 c.args.n))) c.args.rows.now t.row-index (to_z w64 t.sum-bits) c.loop-row-test.false t.invariant.1
-    ∙ ap (λ (z : ℤ). group z c.args.rows.now) (any c.ranges.n).same

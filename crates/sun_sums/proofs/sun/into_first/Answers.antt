@@ -2,7 +2,7 @@
 use mathlib.Core.Path.{◌∙◌, ap}
 use native.Mathlib.Nat.{le_trans}
 use lib.IntN.{ℤ}
-use Rattle.numbers.proofs.Machine.{Mirror, ◌⊕◌, arg, asked, fits, gave, kept}
+use Rattle.numbers.proofs.Machine.{Mirror, ◌⊕◌, arg, fits, gave, kept}
 use Rattle.numbers.proofs.WideProduct.{mul_div_asked, mul_div_gave}
 use Rattle.sum_rules.specs.Instant.{millennium}
 use Rattle.sum_rules.specs.Sun.{group}
@@ -23,9 +23,6 @@ group_mirror c =
 
 abbrev sum : After-mul_div → Mirror
 sum c = group_mirror (goal.at.After-mul_div c).After-group ⊕ mul_div_gave (v_mirror (goal.at.After-mul_div c).Start) (n_mirror (goal.at.After-mul_div c).Start) millennium c.mul_div.type_inv c.mul_div.ensures
-
-pub group-requires : goal.group-requires
-group-requires c = (asked (n_mirror (goal.at.group-requires c).Start) tt, c.requires.1.0)
 
 pub mul_div-requires : goal.mul_div-requires
 mul_div-requires c = mul_div_asked (v_mirror (goal.at.mul_div-requires c).Start) (n_mirror (goal.at.mul_div-requires c).Start) millennium tt

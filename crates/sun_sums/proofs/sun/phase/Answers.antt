@@ -1,6 +1,6 @@
 -- `sun_sums::sun::phase` meets its contract.
 use Rattle.numbers.proofs.Machine.{Mirror, arg, from_nat}
-use Rattle.numbers.proofs.WideProduct.{mul_div_asked, mul_div_gave}
+use Rattle.numbers.proofs.WideProduct.{mul_div_asked}
 use Rattle.sum_rules.specs.Instant.{millennium}
 use Rattle.sun_sums.proofs.sun.phase.Goals as goal
 use Rattle.sun_sums.proofs.sun.phase.Goals.{Start}
@@ -13,6 +13,3 @@ n_mirror s = arg s.ranges.n s.requires.0
 
 pub mul_div-requires : goal.mul_div-requires
 mul_div-requires c = mul_div_asked (c_mirror (goal.at.mul_div-requires c).Start) (n_mirror (goal.at.mul_div-requires c).Start) millennium tt
-
-pub returns : goal.returns
-returns c = (mul_div_gave (c_mirror (goal.at.returns c).Start) (n_mirror (goal.at.returns c).Start) millennium c.mul_div.type_inv c.mul_div.ensures).same

@@ -6,7 +6,7 @@ use native.Mathlib.Omega.{arith}
 use lib.IntN.{◌+ℤ◌, pos, ℤ}
 use Rattle.arithmetic.specs.Floor.{◌modulo◌}
 use Rattle.arithmetic.proofs.FloorLaws.{modulo_below}
-use Rattle.numbers.proofs.Machine.{Mirror, ◌⊕◌, any, fits, from_nat, gave, handed, kept}
+use Rattle.numbers.proofs.Machine.{Mirror, ◌⊕◌, any, fits, from_nat, gave, kept}
 use Rattle.sum_rules.specs.Sun.{phase, row_angle}
 use Rattle.sun_sums.proofs.SunLaws.{phase_small}
 use Rattle.sun_sums.proofs.sun.row_angle.Goals as goal
@@ -25,9 +25,6 @@ left_small : (c : After-floor_mod) → c.floor_mod.result < 628_318_531
 left_small c =
     let z = pos c.args.b +ℤ phase c.args.n c.args.c in
     subst⁻¹ (λ (r : ℕ). r < 628_318_531) (left_is c) (modulo_below z (zero-lt-suc 628_318_530))
-
-pub phase-requires : goal.phase-requires
-phase-requires c = (handed c.ranges.n c.requires.0, c.requires.1.1)
 
 pub overflow_mul-result : goal.overflow_mul-result
 overflow_mul-result c = record { fits = omega (arith, left_small (goal.at.overflow_mul-result c).After-floor_mod) }

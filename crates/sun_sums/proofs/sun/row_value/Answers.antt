@@ -49,8 +49,5 @@ pub returns-else-b-c-eq0 : goal.returns-else-b-c-eq0
 unfolding row_value
 returns-else-b-c-eq0 c = (floor_gave (kept (product (goal.at.returns-else-b-c-eq0 c).After-cosine) tt) 10_000_000 c.floor_div.type_inv c.floor_div.ensures).same
 
-pub overflow_mul-result : goal.overflow_mul-result
-overflow_mul-result c = fits (constant (goal.at.overflow_mul-result c).Start) tt
-
 pub overflow_mul-a : goal.overflow_mul-a
 overflow_mul-a c = fits (product (goal.at.overflow_mul-a c).After-cosine) tt

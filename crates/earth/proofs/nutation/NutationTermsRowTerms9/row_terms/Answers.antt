@@ -9,7 +9,7 @@ use Rattle.numbers.proofs.Machine.{Mirror, asked, gave, passed, told}
 use Rattle.sum_rules.specs.Nutation.{row_angle, weight}
 use Rattle.sum_rules.specs.Table.{column}
 use Rattle.earth.specs.NutationRange.{SmallRow}
-use Rattle.sum_terms.proofs.NarrowMirror.{column_handed, column_most, column_same}
+use Rattle.sum_terms.proofs.NarrowMirror.{column_most, column_same}
 use Rattle.earth.proofs.NutationLaws.{weight_small}
 use Rattle.earth.proofs.nutation.NutationTermsRowTerms9.row_terms.Goals as goal
 use Rattle.earth.proofs.nutation.NutationTermsRowTerms9.row_terms.Goals.{After-row_angle-angle, After-weight-first, After-weight-second, Start}
@@ -54,16 +54,6 @@ second c =
     let s = from_second c in
     gave c.weight-second.type_inv (c.weight-second.ensures ∙ (λ i. weight ((u_mirror s).same i) (column_same (small s) 7 tt tt i) (column_same (small s) 8 tt tt i)))
     (weight_small (u s) s.requires.1.0 (column (row s) 7) (column (row s) 8) (column_most (small s) 7 tt tt) (column_most (small s) 8 tt tt))
-
-pub weight-first-requires : goal.weight-first-requires
-weight-first-requires c =
-    let s = from_angle (goal.at.weight-first-requires c).After-row_angle-angle in
-    (asked (u_mirror s) tt, (column_handed (small s) 5 tt tt, column_handed (small s) 6 tt tt))
-
-pub weight-second-requires : goal.weight-second-requires
-weight-second-requires c =
-    let s = from_first (goal.at.weight-second-requires c).After-weight-first in
-    (asked (u_mirror s) tt, (column_handed (small s) 7 tt tt, column_handed (small s) 8 tt tt))
 
 pub weighted-requires : goal.weighted-requires
 weighted-requires c = (asked (first (goal.at.weighted-requires c).After-weight-first) tt, asked (second (goal.at.weighted-requires c).After-weight-second) tt)

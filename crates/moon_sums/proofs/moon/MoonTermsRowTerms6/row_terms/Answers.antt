@@ -73,9 +73,6 @@ second c =
     gave c.weight-second.type_inv (c.weight-second.ensures ∙ (λ i. weight (e s) (nat_abs (column_same (small s) 1 tt tt i)) (column_same (small s) 5 tt tt i)))
     (weight_small (e s) (slight s) (nat_abs (column (row s) 1)) (column (row s) 5) (column_most (small s) 5 tt tt))
 
-pub angle_of-angle-requires : goal.angle_of-angle-requires
-angle_of-angle-requires c = (c.requires.0, few (goal.at.angle_of-angle-requires c).Start)
-
 pub weight-first-requires : goal.weight-first-requires
 weight-first-requires c =
     let s = from_angle (goal.at.weight-first-requires c).After-angle_of-angle in
