@@ -9,7 +9,7 @@ use native.Mathlib.Omega.{arith}
 use lib.Dec.{leb→le, ltb}
 use lib.IntN.{◌*ℤ◌, ◌+ℤ◌, nat_abs, pos, ℤ}
 use lib.ListN.{get_or, length, length-map, set, take}
-use lib.Seq.{drop-cons, length-take-le, set_at, take_all, take-suc}
+use lib.Seq.{drop-cons, length-take-le, set_at, take-suc}
 use lib.Signed.{◌<ℤ◌, ◌≤ℤ◌, lt_z_no, mag}
 use mir.Syntax.{w64}
 use mir.Val.{of_z, to_z}
@@ -113,9 +113,6 @@ module _ (entry : ℕ → ℤ) (offsets : List ℕ) (before : List ℤ) where
         map-append,
         append_assoc,
       )
-
-  pub filled_all : (i : ℕ) → length offsets ≤ i → filled entry (take i offsets) before ≡ filled entry offsets before
-  filled_all i h = rw (take_all i offsets h) refl
 
   -- one turn, from a buffer that is filled so far and a value as the machine holds it
   pub stored : {now : List ℤ} {v : ℤ} (i : ℕ) → i < length offsets → length offsets ≤ length before

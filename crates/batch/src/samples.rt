@@ -67,6 +67,7 @@ fn later(start: Instant, offset: u32) -> Instant
 }
 
 // Entry i is the place at offset i, and the mark stands for an absent azimuth. Every instant is accepted and both buffers are long enough.
+// Both are written by index: a zip of the two would hold them as iterators, and the proof of what it leaves past the offsets did not close.
 fn fill(
     body: Body,
     runner: Runner,
@@ -88,6 +89,7 @@ fn fill(
 }
 
 // How many places, at a start plus each offset: azimuths and elevations (without refraction) in 10⁻⁸ degree.
+// C lends two buffers, each of its own length.
 pub fn places_at(
     start: Start,
     body: Body,
