@@ -29,7 +29,7 @@ pub fn put_fields(out: &mut [u8], at: usize, widths: &[usize], numbers: &[u32]) 
     next
 }
 
-// Numbers into fields that are all of one width.
+// Numbers into fields that are all of one width. A twin of `put_fields` that stays: its loop is one call, and a closure for the width would need more clauses than it saves.
 pub fn put_alike(out: &mut [u8], at: usize, width: usize, numbers: &[u32]) -> usize
     requires { at + width * length numbers.now ≤ length out.old }
     ensures { Put out.old at (joined (alike (length numbers.now) width) numbers.now) out.new result }

@@ -7,9 +7,10 @@ use crate::buffer::Buffer;
 // The most bytes of a text; `text_room` of the specs.
 pub const TEXT_ROOM: usize = 80;
 
-// A line that is being written.
+// A line that is being written. What it is given is counted here and does not go through `Display`: a `write!` is a `Result` at every number, and tells no caller how many bytes it took.
 pub type Text = Buffer<TEXT_ROOM>;
 
+// For this room alone: of a recursive method of every room today's prover makes no proof.
 impl Buffer<TEXT_ROOM> {
     // The digits before the last one, and the last one: no more calls within calls than a number has digits.
     fn push_digits(&mut self, size: u64)

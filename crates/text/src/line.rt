@@ -55,7 +55,7 @@ pub fn begins(first: &[u8], line: &[u8]) -> bool
     line.starts_with(first)
 }
 
-// The numbers of a line into as many places; nothing where it is no line of so many numbers.
+// The numbers of a line into as many places; nothing where it is no line of so many numbers. Over a slice: of this loop in a function with a const parameter today's prover makes no proof.
 fn fill(values: &mut [i64], line: &[u8], most: usize) -> Option<()>
     requires { most ≤ 10 }
     ensures { Filled (line_numbers (length values.old) most line.now) values.new result }
