@@ -20,7 +20,7 @@ const MEASURED: u32 = 2;
 
 const CARRIED_OVER: u32 = 3;
 
-pub fn body_of(code: u32) -> Result<Body, Fault>
+pub fn read_body(code: u32) -> Result<Body, Fault>
     ensures { Told (λ body. body) (body_refusal code) (body_of code) result }
 {
     match code {
@@ -31,7 +31,7 @@ pub fn body_of(code: u32) -> Result<Body, Fault>
 }
 
 // Pressure in mbar and temperature in °C, both read only where the kind is measured.
-pub fn air_of(kind: u32, pressure: f64, temperature: f64) -> Result<Option<Air>, Fault>
+pub fn read_air(kind: u32, pressure: f64, temperature: f64) -> Result<Option<Air>, Fault>
     ensures { Told (λ air. air) (kind_refusal kind) (air_of kind pressure temperature) result }
 {
     match kind {
@@ -45,7 +45,7 @@ pub fn air_of(kind: u32, pressure: f64, temperature: f64) -> Result<Option<Air>,
 }
 
 // Of measured air no pressure and no temperature is asked, since no strip is written with it.
-pub fn strip_air_of(kind: u32) -> Result<StripAir, Fault>
+pub fn read_strip_air(kind: u32) -> Result<StripAir, Fault>
     ensures { Told (λ air. air) (strip_kind_refusal kind) (strip_air_of kind) result }
 {
     let unasked = Air {

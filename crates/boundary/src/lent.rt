@@ -20,8 +20,9 @@ pub fn place_parts(seen: Place) -> (u32, [i64; 2])
     ensures { result ≡ place_parts (place_numbers seen) }
 {
     let azimuth = seen.azimuth;
+    let flag = u32::from(azimuth.is_some());
     let values = [angle_or(0, azimuth), seen.elevation];
-    (u32::from(azimuth.is_some()), values)
+    (flag, values)
 }
 
 // The flag of the azimuth; azimuth, elevation and refraction.

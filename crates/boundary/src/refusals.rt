@@ -4,7 +4,7 @@ ghost use Rattle.calendar.specs.Refusal.{◌unless◌};
 ghost use Rattle.boundary.specs.Codes.{air_of, disks_numbers, disks_refusal, elevation_refusal, given_disks, reach_refusal, refraction_refusal};
 ghost use Rattle.boundary.specs.Fault.{Told, fault_number, fault_of};
 
-use super::codes::air_of;
+use super::codes::read_air;
 use super::fault::Fault;
 use numbers::angle::Angle;
 use numbers::whole::is_between;
@@ -37,7 +37,7 @@ pub fn refracting_air(
 ) -> Result<Option<Air>, Fault>
     ensures { Told (λ air. air) (refraction_refusal elevation air pressure temperature) (air_of air pressure temperature) result }
 {
-    let air = air_of(air, pressure, temperature)?;
+    let air = read_air(air, pressure, temperature)?;
     elevation_verdict(elevation)?;
     air_verdict(air)?;
     Ok(air)

@@ -1,4 +1,2 @@
-pub mod BatchLaws
-pub mod ProposalLaws
 pub mod InstantLaws
-pub mod WrittenLaws
+pub mod PlanLaws

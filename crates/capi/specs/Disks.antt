@@ -1,6 +1,6 @@
 -- The exports over two disks: 02's answers, as C is handed them.
 use Rattle.std.specs.Prelude.{List, [], ◌∷◌, nat_abs, pos, ℤ}
-use Rattle.boundary.specs.Given.{point_from}
+use Rattle.sky_vectors.specs.Station.{point_from}
 use Rattle.eclipse.specs.Answer.{solar_eclipse}
 use Rattle.eclipse.specs.declared.disks.Eclipse.{Eclipse}
 use Rattle.overlap.specs.Overlap.{share}

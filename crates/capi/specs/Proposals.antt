@@ -1,7 +1,10 @@
 -- The exports over a proposal: 02's answers, as C is handed them.
-use Rattle.std.specs.Prelude.{cond, List, ◌++◌, ℕ, eqb, ℤ, drop}
+use Rattle.std.specs.Prelude.{cond, Err, List, ◌++◌, Ok, Result, ⊤, ℕ, eqb, ℤ, drop}
 use Rattle.boundary.specs.Codes.{body_of, body_refusal, no_plan}
-use Rattle.boundary.specs.Given.{point_from}
+use Rattle.sky_vectors.specs.Station.{point_from}
+use Rattle.boundary.specs.Fault.{fault_number}
+use Rattle.boundary.specs.declared.fault.Fault.{Fault}
+use Rattle.boundary.specs.declared.fault.Fault.TheVariants.{Out}
 use Rattle.calendar.specs.Refusal.{◌else◌, ◌unless◌}
 use Rattle.day.specs.Date.{date_from}
 use Rattle.plan.specs.Answer as Planner
@@ -17,6 +20,12 @@ abbrev pub coded_judgement : List ℤ → ℕ → List ℤ → ℕ → List ℕ 
 coded_judgement date body point tolerance minutes azimuths =
     let refusal = body_refusal body in
     cond (eqb refusal 0) (judgement (date_from date) (body_of body) (point_from point) tolerance minutes azimuths) (record { refusal = refusal; minute = 0 })
+
+-- a verdict, or a fault, which may be a minute out of tolerance
+abbrev pub verdict_told : Result ⊤ Fault → JudgementAnswer
+verdict_told (Ok accepted) = record { refusal = 0; minute = 0 }
+verdict_told (Err (Out minute)) = record { refusal = 31; minute = minute }
+verdict_told (Err fault) = record { refusal = fault_number fault; minute = 0 }
 
 -- the first minute out of tolerance; any other answer writes nothing
 abbrev pub told_minute : JudgementAnswer → ℕ → ℕ

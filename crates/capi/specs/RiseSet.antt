@@ -1,7 +1,7 @@
 -- The export over a day: 02's answers, as C is handed them.
 use Rattle.std.specs.Prelude.{List, ℕ, ℤ}
 use Rattle.boundary.specs.Codes.{body_of, body_refusal}
-use Rattle.boundary.specs.Given.{point_from}
+use Rattle.sky_vectors.specs.Station.{point_from}
 use Rattle.day.specs.Date.{date_from}
 use Rattle.rise_set.specs.Answer.{RiseSetNumbers, neither, rise_and_set}
 use Rattle.sky.specs.Answer.{Answer}

@@ -1,7 +1,8 @@
 -- The exports over strips: 02's answers, as C is handed them.
-use Rattle.std.specs.Prelude.{cond, List, [], ◌++◌, ◌∷◌, ℕ, eqb, Float, ℤ, drop, length}
+use Rattle.std.specs.Prelude.{cond, List, [], ◌++◌, ◌∷◌, ℕ, eqb, Err, Float, None, Ok, Option, Result, Some, ℤ, drop, length}
 use Rattle.boundary.specs.Codes.{body_of, body_refusal, no_step}
-use Rattle.boundary.specs.Given.{header_code_refusal, header_from, point_from}
+use Rattle.boundary.specs.Given.{header_code_refusal, header_from}
+use Rattle.sky_vectors.specs.Station.{point_from}
 use Rattle.boundary.specs.Lent.{measured_values}
 use Rattle.calendar.specs.Refusal.{strip_number}
 use Rattle.calendar.specs.declared.refusal.StripRefusal.TheVariants as Strips
@@ -12,8 +13,8 @@ use Rattle.sky.specs.Answer.{Answer}
 use Rattle.strip.specs.Checks.{absent, steps}
 use Rattle.strip.specs.Format.{Strip, azimuth_part, encode, header_size, strip_of}
 use Rattle.strip.specs.declared.header.Header.{Header}
-use Rattle.strip_reader.specs.declared.reader.StripAzimuth.{StripAzimuth}
-use Rattle.strip_reader.specs.declared.reader.StripAzimuth.TheVariants.{Absent, NoAzimuth, NoStep, Towards}
+use Rattle.strip_reader.specs.declared.reader.StepRefusal.{StepRefusal}
+use Rattle.strip_reader.specs.declared.reader.StepRefusal.TheVariants.{NoAzimuth, NoStep}
 use Rattle.strip_writer.specs.Writing.{write}
 use Rattle.capi.specs.Answers.{formed, written_one}
 
@@ -39,17 +40,15 @@ abbrev pub header_measured : Header → List Float
 header_measured header = measured_values header.air
 
 -- 106 where there is no such step, 26 for a number that is no azimuth
-abbrev pub azimuth_refusal : StripAzimuth → ℕ
-azimuth_refusal (Towards n) = 0
-azimuth_refusal Absent = 0
-azimuth_refusal NoStep = no_step
-azimuth_refusal NoAzimuth = strip_number Strips.Azimuth
+abbrev pub azimuth_refusal : Result (Option ℕ) StepRefusal → ℕ
+azimuth_refusal (Ok azimuth) = 0
+azimuth_refusal (Err NoStep) = no_step
+azimuth_refusal (Err NoAzimuth) = strip_number Strips.Azimuth
 
-abbrev pub azimuth_number : StripAzimuth → ℕ
-azimuth_number (Towards n) = n
-azimuth_number Absent = absent
-azimuth_number NoStep = 0
-azimuth_number NoAzimuth = 0
+abbrev pub azimuth_number : Result (Option ℕ) StepRefusal → ℕ
+azimuth_number (Ok (Some n)) = n
+azimuth_number (Ok None) = absent
+azimuth_number (Err refusal) = 0
 
 -- ---- looked up: which strip, where its azimuth octets begin, and how many there are
 abbrev pub part_values : List ℕ → List ℕ → ℕ → List ℕ

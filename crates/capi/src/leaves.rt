@@ -5,11 +5,12 @@ ghost use Rattle.number_rules.specs.Sine.{sine, cosine};
 ghost use Rattle.arctangent.specs.Arctangent.{arctangent};
 ghost use Rattle.arctangent.specs.Direction.{angle_or, mark};
 ghost use Rattle.numbers.specs.Root.{root};
+ghost use Rattle.boundary.specs.Fault.{Told};
 ghost use Rattle.capi.specs.Answers.{written_one};
 
 use arctangent::direction::{MARK, angle_or};
-use calendar::day_count::DayCount;
-use calendar::refusal::number_of;
+use boundary::fault::{Fault, put};
+use calendar::day_count::day_count;
 
 // Days from 2000-01-01.
 #[unsafe(no_mangle)]
@@ -17,13 +18,13 @@ pub extern "C" fn raddlehue_day_count(year: i64, month: i64, day: i64, days: &mu
     ensures value { result ≡ (day_count year month day).refusal }
     ensures days_after { days.new ≡ written_one (day_count year month day).refusal (day_count year month day).days days.old }
 {
-    match calendar::day_count::day_count(year, month, day) {
-        DayCount::Days(count) => {
-            *days = count;
-            0
-        }
-        DayCount::Refused(refusal) => number_of(refusal),
-    }
+    put(days, counted(year, month, day))
+}
+
+fn counted(year: i64, month: i64, day: i64) -> Result<i64, Fault>
+    ensures { Told (λ days. days) (day_count year month day).refusal (day_count year month day).days result }
+{
+    Ok(day_count(year, month, day)?)
 }
 
 #[unsafe(no_mangle)]

@@ -1,13 +1,18 @@
 // The place of a body, and the place as it is shown.
 ghost use Rattle.std.specs.Prelude.{◌≡◌};
-ghost use Rattle.boundary.specs.Lent.{place_flag, place_values, shown_flag, shown_values};
-ghost use Rattle.capi.specs.Answers.{coded_place, coded_shown_place, written};
+ghost use Rattle.boundary.specs.Codes.{code_refusal};
+ghost use Rattle.boundary.specs.Fault.{Told};
+ghost use Rattle.boundary.specs.Lent.{place_flag, place_parts, place_values, shown_flag, shown_parts, shown_values};
+ghost use Rattle.capi.specs.Answers.{Answered, coded_place, coded_shown_place, written};
+ghost use Rattle.capi.specs.Asked.{asked_from};
 
-use boundary::codes::{air_of, body_of, code_refusal};
-use boundary::given::{point_of, start_of};
-use boundary::lent::{put_place, put_shown};
-use calendar::refusal::number_of;
-use sky::answer::{PlaceAnswer, ShownAnswer, shown_place};
+use boundary::codes::{read_air, read_body};
+use boundary::fault::{Fault, put_both};
+use boundary::lent::{place_parts, shown_parts};
+use refraction::air::Air;
+use request::start::Start;
+use sky_vectors::geocentric::Body;
+use sky_vectors::station::Point;
 
 // Whether there is an azimuth, azimuth from north over east and elevation without refraction, in 10⁻⁸ degree. The air is only judged.
 #[unsafe(no_mangle)]
@@ -25,18 +30,11 @@ pub extern "C" fn raddlehue_place(
     ensures has_azimuth_after { has_azimuth.new ≡ written place_flag (coded_place start.now body point.now air pressure temperature) has_azimuth.old }
     ensures place_after { place.new ≡ written place_values (coded_place start.now body point.now air pressure temperature) place.old }
 {
-    let refusal = code_refusal(body, air);
-    if refusal != 0 {
-        return refusal;
-    }
-    let asked = air_of(air, pressure, temperature);
-    match sky::answer::place(start_of(start), body_of(body), point_of(point), asked) {
-        PlaceAnswer::Seen(seen) => {
-            put_place(has_azimuth, place, seen);
-            0
-        }
-        PlaceAnswer::Refused(refused) => number_of(refused),
-    }
+    put_both(
+        has_azimuth,
+        place,
+        seen(start, body, point, air, pressure, temperature),
+    )
 }
 
 // Whether there is an azimuth, azimuth from north over east, elevation with the refraction in it, and the refraction, in degrees.
@@ -55,16 +53,68 @@ pub extern "C" fn raddlehue_shown_place(
     ensures has_azimuth_after { has_azimuth.new ≡ written shown_flag (coded_shown_place start.now body point.now air pressure temperature) has_azimuth.old }
     ensures shown_after { shown.new ≡ written shown_values (coded_shown_place start.now body point.now air pressure temperature) shown.old }
 {
-    let refusal = code_refusal(body, air);
-    if refusal != 0 {
-        return refusal;
-    }
-    let asked = air_of(air, pressure, temperature);
-    match shown_place(start_of(start), body_of(body), point_of(point), asked) {
-        ShownAnswer::Seen(seen) => {
-            put_shown(has_azimuth, shown, seen);
-            0
-        }
-        ShownAnswer::Refused(refused) => number_of(refused),
-    }
+    put_both(
+        has_azimuth,
+        shown,
+        seen_as_shown(start, body, point, air, pressure, temperature),
+    )
+}
+
+fn seen(
+    start: &[i64; 9],
+    body: u32,
+    point: &[i64; 3],
+    air: u32,
+    pressure: f64,
+    temperature: f64,
+) -> Result<(u32, [i64; 2]), Fault>
+    ensures { Answered place_parts (coded_place start.now body point.now air pressure temperature) result }
+{
+    let asked = read_request(start, body, point, air, pressure, temperature)?;
+    let seen = sky::answer::place(asked.start, asked.body, asked.point, asked.air)?;
+    Ok(place_parts(seen))
+}
+
+fn seen_as_shown(
+    start: &[i64; 9],
+    body: u32,
+    point: &[i64; 3],
+    air: u32,
+    pressure: f64,
+    temperature: f64,
+) -> Result<(u32, [f64; 3]), Fault>
+    ensures { Answered shown_parts (coded_shown_place start.now body point.now air pressure temperature) result }
+{
+    let asked = read_request(start, body, point, air, pressure, temperature)?;
+    let seen = sky::answer::shown_place(asked.start, asked.body, asked.point, asked.air)?;
+    Ok(shown_parts(seen))
+}
+
+// A request for a place, with its codes read.
+#[derive(Clone, Copy)]
+struct Asked {
+    start: Start,
+    body: Body,
+    point: Point,
+    air: Option<Air>,
+}
+
+fn read_request(
+    start: &[i64; 9],
+    body: u32,
+    point: &[i64; 3],
+    air: u32,
+    pressure: f64,
+    temperature: f64,
+) -> Result<Asked, Fault>
+    ensures { Told (λ asked. asked) (code_refusal body air) (asked_from start.now body point.now air pressure temperature) result }
+{
+    let body = read_body(body)?;
+    let air = read_air(air, pressure, temperature)?;
+    Ok(Asked {
+        start: Start::from(*start),
+        body,
+        point: Point::from(*point),
+        air,
+    })
 }

@@ -47,19 +47,21 @@ pub fn named(rt: &impl Print, name: &[u8], holds: bool) -> io::Result<()> {
     write(rt, b" DEVIATES")
 }
 
-// The names of values in whole units, up to five; the rest are zeros. Each that does not come out is told by its number.
-pub fn compared(
-    rt: &impl Print,
-    names: &[u8],
-    values: [i64; 5],
-    expected: [i64; 5],
-    tolerances: [i64; 5],
-) -> io::Result<()> {
+// A value in whole units, what is printed, and how far they may be apart.
+#[derive(Clone, Copy)]
+pub struct Row {
+    pub value: i64,
+    pub expected: i64,
+    pub tolerance: i64,
+}
+
+// The names of the rows. Each that does not come out is told by its number.
+pub fn compared(rt: &impl Print, names: &[u8], rows: &[Row]) -> io::Result<()> {
     write(rt, names)?;
-    for row in 0..5 {
-        if !within(values[row], expected[row], tolerances[row]) {
+    for (index, row) in rows.iter().enumerate() {
+        if !within(row.value, row.expected, row.tolerance) {
             rt.print(" DEVIATES:")?;
-            rt.print(row + 1)?;
+            rt.print(index + 1)?;
         }
     }
     Ok(())

@@ -11,8 +11,7 @@ ghost use Rattle.sum_rules.specs.Instant.{Reached};
 
 use earth::nutation::{Nutation, nutation_at};
 use numbers::angle::Angle;
-use numbers::sine::sine_cosine_in;
-use numbers::sine_table::table;
+use numbers::sine::sine_cosine;
 use request::start::{Start, instant_of};
 use sky_vectors::geocentric::{Body, Geocentric, geocentric_at};
 use sky_vectors::orientation::{Orientation, orientation_at};
@@ -51,15 +50,14 @@ pub fn steps_to(body: Body, start: Start, point: Point) -> Steps
     ensures longitude_value { (result.nutation.longitude ≡ Δψ (instant start).tt) × (result.nutation.obliquity ≡ Δε (instant start).tt) }
     ensures centre_value { (result.centre ≡ geocentric body (instant start).tt) × (result.orientation ≡ orientation (runner point).longitude (instant start).ut (instant start).tt) }
 {
-    let table = table();
     let moment = moment_of(start);
     let ut = moment.ut;
     let tt = moment.tt;
-    let nutation = nutation_at(&table, tt);
-    let centre = geocentric_at(&table, body, tt, nutation.longitude);
-    let runner = runner_at(&table, point);
+    let nutation = nutation_at(tt);
+    let centre = geocentric_at(body, tt, nutation.longitude);
+    let runner = runner_at(point);
     let longitude = runner.longitude;
-    let orientation = orientation_at(&table, longitude, ut, tt, nutation);
+    let orientation = orientation_at(longitude, ut, tt, nutation);
     Steps {
         nutation,
         centre,
@@ -71,8 +69,7 @@ pub fn steps_to(body: Body, start: Start, point: Point) -> Steps
 pub fn from_south_pole(centre: Geocentric, orientation: Orientation) -> Place
     ensures { result ≡ from_south_pole centre orientation }
 {
-    let table = table();
-    let pole = sine_cosine_in(&table, -(Angle::QUARTER as i64));
-    let direction = from_centre(&table, centre, orientation);
+    let pole = sine_cosine(-(Angle::QUARTER as i64));
+    let direction = from_centre(centre, orientation);
     place_towards(pole, direction)
 }

@@ -10,10 +10,10 @@ use Rattle.cases.proofs.steps.from_south_pole.Goals as goal
 
 pub place_towards-requires : goal.place_towards-requires
 place_towards-requires c = (
-  gave_one_angle (minus quarter_turn) c.sine_cosine_in-pole.ensures,
+  gave_one_angle (minus quarter_turn) c.sine_cosine-pole.ensures,
   widen tt (subst⁻¹ (SmallVector _) c.from_centre-direction.ensures (centre_small c.args.centre c.args.orientation)),
 )
 
 pub returns : goal.returns
 returns c =
-    c.place_towards.ensures ∙ ap₂ place_towards (gave_sine_cosine (minus quarter_turn) c.sine_cosine_in-pole.ensures) c.from_centre-direction.ensures
+    c.place_towards.ensures ∙ ap₂ place_towards (gave_sine_cosine (minus quarter_turn) c.sine_cosine-pole.ensures) c.from_centre-direction.ensures

@@ -15,7 +15,7 @@ use Rattle.sky_vectors.proofs.SkySizes.{runner_stands}
 use Rattle.sum_rules.specs.Nutation.{Δε, Δψ}
 use borrow.Author.Rules.{rules}
 use Rattle.cases.proofs.steps.steps_to.Goals as goal
-use Rattle.cases.proofs.steps.steps_to.Goals.{After-geocentric_at-centre, After-moment_of-moment, After-nutation_at-nutation, After-runner_at-runner, After-table-table, Start}
+use Rattle.cases.proofs.steps.steps_to.Goals.{After-geocentric_at-centre, After-moment_of-moment, After-nutation_at-nutation, After-runner_at-runner, Start}
 
 -- the states on the way
 module _ (e : After-geocentric_at-centre) where
@@ -25,11 +25,8 @@ module _ (e : After-geocentric_at-centre) where
   abbrev at : After-moment_of-moment
   at = (goal.at.After-nutation_at-nutation nodding).After-moment_of-moment
 
-  abbrev with_table : After-table-table
-  with_table = (goal.at.After-moment_of-moment at).After-table-table
-
   abbrev s : Start
-  s = (goal.at.After-table-table with_table).Start
+  s = (goal.at.After-moment_of-moment at).Start
 
 longitude_is : (r : After-runner_at-runner) → to_z w64 (of_z w64 r.runner_at-runner.result.longitude) ≡ (runner (s (goal.at.After-runner_at-runner r).After-geocentric_at-centre).args.point).longitude
 longitude_is r = to_z-of_z w64 r.runner_at-runner.result.longitude (fits r) ∙ ap (λ (x : Runner). x.longitude) r.runner_at-runner.ensures
@@ -40,13 +37,13 @@ longitude_is r = to_z-of_z w64 r.runner_at-runner.result.longitude (fits r) ∙ 
 pub runner_at-runner-requires : goal.runner_at-runner-requires
 runner_at-runner-requires c =
     let e = (goal.at.runner_at-runner-requires c).After-geocentric_at-centre in
-    ((with_table e).table-table.ensures, on_earth (s e).args.point (s e).requires.1)
+    on_earth (s e).args.point (s e).requires.1
 
 pub orientation_at-orientation-requires : goal.orientation_at-orientation-requires
 orientation_at-orientation-requires c =
     let r = (goal.at.orientation_at-orientation-requires c).After-runner_at-runner in
     let e = (goal.at.After-runner_at-runner r).After-geocentric_at-centre in record {
-      table_value = ((with_table e).table-table.ensures, subst⁻¹ (λ (z : ℤ). nat_abs z ≤ half_turn) (longitude_is r) (runner_stands (s e).args.point (on_earth (s e).args.point (s e).requires.1)).longitude_size);
+      within = subst⁻¹ (λ (z : ℤ). nat_abs z ≤ half_turn) (longitude_is r) (runner_stands (s e).args.point (on_earth (s e).args.point (s e).requires.1)).longitude_size;
       reached = (((at e).moment_of-moment.ensures.0.0, (at e).moment_of-moment.ensures.0.1), ((nodding e).nutation_at-nutation.ensures.0, (nodding e).nutation_at-nutation.ensures.1));
     }
 
