@@ -2,7 +2,7 @@
 ghost use Rattle.boundary.specs.Fault.{Told};
 ghost use Rattle.boundary.specs.Given.{header_code_refusal, header_from};
 
-use super::codes::{read_body, code_in, read_strip_air};
+use super::codes::{code_in, read_body, read_strip_air};
 use super::fault::Fault;
 use strip::header::Header;
 

@@ -1,2 +1,1 @@
 pub mod InstantLaws
-pub mod PlanLaws

@@ -45,7 +45,9 @@ fn site() -> Point
 
 // L' 118.2130333, D 358.2658977, M 196.845702 and M' 6.110197 degrees, to one of the last printed digit. F is not printed.
 fn mean_arguments(rt: &impl Print) -> io::Result<()> {
-    let [longitude, elongation, anomaly, moons_anomaly, latitude] = arguments(moment_of(start()).tt);
+    let [longitude, elongation, anomaly, moons_anomaly, latitude] = arguments(
+        moment_of(start()).tt,
+    );
     compared(
         rt,
         b" L' D M M'",

@@ -1,6 +1,5 @@
 -- `capi::instants::nutation_values` meets its contract.
 use mathlib.Core.Path.{◌∙◌, ap}
-use lib.IntN.{nat_abs, ℤ}
 use mir.Syntax.{w64}
 use mir.Val.{of_z, to_z}
 use Rattle.numbers.proofs.Machine.{Mirror, asked, told}
