@@ -1,3 +1,4 @@
+pub mod BufferLaws
 pub mod StdLaws
 pub mod LineLaws
 pub mod WordLaws
