@@ -10,7 +10,7 @@ use text::decimal::Text;
 const NEWLINE: u8 = b'\n';
 
 // The line so far, and how many bytes of the buffer are in use.
-#[derive(Drop)]
+#[derive(Clone, Copy)]
 pub struct Turn {
     pub line: Line,
     pub used: usize,
