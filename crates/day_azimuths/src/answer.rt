@@ -44,6 +44,6 @@ pub fn day_azimuths(
     azimuths_verdict(date, point, step, azimuths.len())?;
     let course = Course::new(date, body, point);
     let count = steps_of(step);
-    fill(course, step as usize, &mut azimuths[..count]);
+    fill(course, step as usize, count, azimuths);
     Ok(count)
 }

@@ -1,5 +1,5 @@
 // The azimuth at each step of a day, as a strip has it.
-ghost use Rattle.std.specs.Prelude.{◌≡◌, ◌*◌, ◌≤◌, length};
+ghost use Rattle.std.specs.Prelude.{◌++◌, ◌≡◌, ◌*◌, ◌≤◌, drop, length};
 ghost use Rattle.arctangent.specs.Direction.{Reduced};
 ghost use Rattle.day.specs.Curve.{each_below, minutes};
 ghost use Rattle.day_azimuths.specs.Azimuths.{strip_azimuth, strip_azimuth_from};
@@ -23,11 +23,19 @@ fn strip_azimuth(direction: Option<Angle>) -> u32
 }
 
 // Entry i is the azimuth i steps after minute 0.
-pub fn fill(course: Course, step: usize, azimuths: &mut [u32])
+fn fill_all(course: Course, step: usize, azimuths: &mut [u32])
     requires { length azimuths.old * step ≤ minutes }
     ensures { azimuths.new ≡ each_below (strip_azimuth_from course.body course.runner course.date course.days step) (length azimuths.old) }
 {
     for (index, azimuth) in azimuths.iter_mut().enumerate() {
         *azimuth = strip_azimuth(course.azimuth(index * step));
     }
+}
+
+// So many entries; what lies behind them is left alone.
+pub fn fill(course: Course, step: usize, count: usize, azimuths: &mut [u32])
+    requires step_bound { (count * step ≤ minutes) × (count ≤ length azimuths.old) }
+    ensures { azimuths.new ≡ each_below (strip_azimuth_from course.body course.runner course.date course.days step) count ++ drop count azimuths.old }
+{
+    fill_all(course, step, &mut azimuths[..count]);
 }

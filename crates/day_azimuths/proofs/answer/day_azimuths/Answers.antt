@@ -1,12 +1,11 @@
 -- `answer::day_azimuths` meets its contract. What the course has in common is what the definitions work afresh for each step.
 use mathlib.Core.Bool.{true}
-use mathlib.Core.List.{List, ◌++◌}
+use mathlib.Core.List.{◌++◌}
 use mathlib.Core.Path.{◌∙◌, ◌≡◌, ap, sym}
 use Prim.Native.Nat.{◌≤◌, ℕ}
 use native.Mathlib.Omega.{arith}
 use lib.IntN.{nat_abs, ℤ}
-use lib.ListN.{drop, length, take}
-use lib.Seq.{length-take-le}
+use lib.ListN.{drop, length}
 use mir.Syntax.{w64}
 use mir.Val.{of_z, to_z}
 use Rattle.calendar.proofs.RefusalLaws.{handed_up, never_none}
@@ -61,12 +60,6 @@ module _ (c : After-steps_of-count) where
   has_so_many : c.steps_of-count.result ≤ length c.args.azimuths.now
   has_so_many = omega (arith, count_is, steps_fit passed)
 
-  taken : length (take c.steps_of-count.result c.args.azimuths.now) ≡ c.steps_of-count.result
-  taken = length-take-le c.steps_of-count.result c.args.azimuths.now has_so_many
-
-  filled : length (take c.steps_of-count.result c.args.azimuths.now) ≡ steps c.args.step
-  filled = taken ∙ count_is
-
 pub returns-in_err-azimuths_verdict : goal.returns-in_err-azimuths_verdict
 unfolding day_azimuths
 returns-in_err-azimuths_verdict c =
@@ -96,16 +89,10 @@ overflow_cast-step c =
     let n = step_natural c.args.step (step_good (passed k)) in
     to_nat (handed k ∙ n.is) (omega (arith, n.most_is))
 
-pub slice_bounds-fill-end : goal.slice_bounds-fill-end
-slice_bounds-fill-end c = has_so_many (goal.at.slice_bounds-fill-end c).After-steps_of-count
-
-pub slice_bounds-fill-end-2 : goal.slice_bounds-fill-end-2
-slice_bounds-fill-end-2 c = sym (taken (goal.at.slice_bounds-fill-end-2 c).After-steps_of-count)
-
 pub fill-requires : goal.fill-requires
 fill-requires c =
     let k = (goal.at.fill-requires c).After-steps_of-count in
-    rw (filled k, handed k) (all_in_day c.args.step)
+    record { step_bound = (rw (count_is k, handed k) (all_in_day c.args.step), has_so_many k) }
 
 pub returns : goal.returns
 unfolding day_azimuths worked place_at
@@ -116,8 +103,8 @@ returns c =
     let course = c.new-course.ensures in
     let stands = none (passed k) in record {
       one_answer = one_working (answered_with 0 (steps a.step) stands (count_is k));
-      azimuths_after = ap (λ (list : List ℕ). list ++ drop c.steps_of-count.result before) c.fill.ensures
-          ∙ (λ i. each_below (strip_azimuth_from (course.body_is i) (course.runner_is i) (course.date_is i) (course.days_is i) (nat_abs (handed k i))) (filled k i)
+      azimuths_after = c.fill.ensures
+          ∙ (λ i. each_below (strip_azimuth_from (course.body_is i) (course.runner_is i) (course.date_is i) (course.days_is i) (nat_abs (handed k i))) (count_is k i)
           ++ drop (count_is k i) before)
           ∙ filled_in a.date a.body a.point a.step before stands;
       azimuths_near = every_azimuth_near a.date a.point a.step (length before);

@@ -2,7 +2,7 @@ use mathlib.Core.Path.{◌≡◌}
 use lib.ListN.{length, take}
 use Rattle.day.specs.Curve.{each_below}
 use Rattle.day_azimuths.specs.Azimuths.{strip_azimuth_from}
-use Rattle.day_azimuths.proofs.steps.fill.Given as goal
+use Rattle.day_azimuths.proofs.steps.fill_all.Given as goal
 
 abbrev pub invariant-loop-index : goal.invariant-loop-index
 invariant-loop-index l =

@@ -1,4 +1,4 @@
--- `steps::fill` meets its contract. The invariant: the entries so far are the azimuths at the steps so far.
+-- `steps::fill_all` meets its contract. The invariant: the entries so far are the azimuths at the steps so far.
 use mathlib.Core.Path.{◌∙◌, ap, refl, subst⁻¹}
 use Prim.Native.Nat.{◌*◌, ◌<◌}
 use lib.ListN.{length, length-set}
@@ -8,7 +8,7 @@ use Rattle.day.proofs.CurveLaws.{filled_next, filled_none}
 use Rattle.day.specs.Curve.{minute_of}
 use Rattle.sky_vectors.proofs.PlaceLaws.{place_from_in_turns}
 use Rattle.day_azimuths.specs.Azimuths.{strip_azimuth, strip_azimuth_from}
-use Rattle.day_azimuths.proofs.steps.fill.Goals as goal
+use Rattle.day_azimuths.proofs.steps.fill_all.Goals as goal
 
 pub loop-index-init : goal.loop-index-init
 loop-index-init c =
