@@ -20,42 +20,66 @@ const MEASURED: u32 = 2;
 
 const CARRIED_OVER: u32 = 3;
 
+// The body of a code; one that is unknown counts as the Moon's.
+pub fn body_of(code: u32) -> Body
+    ensures { result ≡ body_of code }
+{
+    if code == SUN { Body::Sun } else { Body::Moon }
+}
+
 pub fn read_body(code: u32) -> Result<Body, Fault>
     ensures { Told (λ body. body) (body_refusal code) (body_of code) result }
 {
     match code {
-        SUN => Ok(Body::Sun),
-        MOON => Ok(Body::Moon),
+        SUN | MOON => Ok(body_of(code)),
         _ => Err(Fault::UnknownBody),
     }
 }
 
-// Pressure in mbar and temperature in °C, both read only where the kind is measured.
+// Pressure in mbar and temperature in °C, both read only where there is an air; an unknown kind counts as measured.
+pub fn air_of(kind: u32, pressure: f64, temperature: f64) -> Option<Air>
+    ensures { result ≡ air_of kind pressure temperature }
+{
+    if kind == NONE {
+        return None;
+    }
+    Some(Air {
+        pressure,
+        temperature,
+    })
+}
+
 pub fn read_air(kind: u32, pressure: f64, temperature: f64) -> Result<Option<Air>, Fault>
     ensures { Told (λ air. air) (kind_refusal kind) (air_of kind pressure temperature) result }
 {
     match kind {
-        NONE => Ok(None),
-        MEASURED => Ok(Some(Air {
-            pressure,
-            temperature,
-        })),
+        NONE | MEASURED => Ok(air_of(kind, pressure, temperature)),
         _ => Err(Fault::UnknownAir),
     }
 }
 
-// Of measured air no pressure and no temperature is asked, since no strip is written with it.
-pub fn read_strip_air(kind: u32) -> Result<StripAir, Fault>
-    ensures { Told (λ air. air) (strip_kind_refusal kind) (strip_air_of kind) result }
+// Of measured air no pressure and no temperature is asked, since no strip is written with it; an unknown kind counts as carried over.
+pub fn strip_air_of(kind: u32) -> StripAir
+    ensures { result ≡ strip_air_of kind }
 {
     let unasked = Air {
         pressure: 0.0,
         temperature: 0.0,
     };
+    if kind == NONE {
+        StripAir::None
+    } else if kind == MEASURED {
+        StripAir::Measured(unasked)
+    } else {
+        StripAir::CarriedOver(unasked)
+    }
+}
+
+pub fn read_strip_air(kind: u32) -> Result<StripAir, Fault>
+    ensures { Told (λ air. air) (strip_kind_refusal kind) (strip_air_of kind) result }
+{
     match kind {
-        NONE => Ok(StripAir::None),
-        MEASURED => Ok(StripAir::Measured(unasked)),
-        CARRIED_OVER => Ok(StripAir::CarriedOver(unasked)),
+        NONE | MEASURED | CARRIED_OVER => Ok(strip_air_of(kind)),
         1 | 4.. => Err(Fault::UnknownAir),
     }
 }
