@@ -53,8 +53,10 @@ pub extern "C" fn raddlehue_plan(
     ensures azimuths_after { azimuths.new ≡ azimuths_left date.now body point.now tolerance azimuths.old }
     ensures count_after { count.new ≡ written_one (plan_refusal (coded_planning date.now body point.now tolerance)) (coded_planning date.now body point.now tolerance).value.points count.old }
 {
-    let answer = planned(date, body, point, tolerance, minutes, azimuths);
-    put(count, answer)
+    put(
+        count,
+        planned(date, body, point, tolerance, minutes, azimuths),
+    )
 }
 
 fn judged(
