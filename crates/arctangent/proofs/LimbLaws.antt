@@ -1,20 +1,22 @@
 -- Numbers in two limbs.
 use mathlib.Core.List.{[], ◌∷◌}
-use mathlib.Core.Path.{◌≡◌, ap, refl, subst, subst⁻¹, sym}
-use Prim.Native.Nat.{◌*◌, ◌+◌, ◌/◌, ◌<◌, ◌^◌, ◌≤◌, ℕ}
+use mathlib.Core.Path.{◌∙◌, ◌≡◌, ap, refl, subst, subst⁻¹, sym}
+use Prim.Native.Nat.{◌*◌, ◌+◌, ◌/◌, ◌<◌, ◌^◌, ◌≤◌, suc, zero, ℕ}
 use native.Mathlib.Nat.{div-lt_iff_lt-mul, mul-le-mul_right}
 use native.Mathlib.Omega.{arith}
 use lib.Dec.{lit<}
-use lib.IntN.{◌*ℤ◌, ◌+ℤ◌, ◌-ℤ◌, nat_abs, negsuc, pos, ℤ}
+use lib.IntN.{+ℤ_idl, ◌*ℤ◌, ◌+ℤ◌, ◌-ℤ◌, nat_abs, negsuc, pos, ℤ}
 use lib.Signed.{◌<ℤ◌, ◌≤ℤ◌, mag}
 use Rattle.arithmetic.specs.Floor.{◌modulo◌, ⌊◌÷◌⌋}
-use Rattle.arithmetic.proofs.Difference.{#◌, by_le, by_lt, to_lt, ⟨◌⟩}
+use Rattle.arithmetic.proofs.Difference.{#◌, ◌⊞◌, ◌⊠◌, by_le, by_lt, to_le, to_lt, ⟨◌⟩}
 use Rattle.arithmetic.proofs.FloorLaws.{above_is, modulo_below, next_digit, split}
 use Rattle.arithmetic.proofs.Integers.{linℤ, solveℤ}
 use Rattle.arithmetic.proofs.Sizes.{abs_mul, other_part}
 use Rattle.arithmetic.proofs.Solver.{◌:*◌, ◌:+◌, ◌:-◌, con, x0, x1, x2, x3, x4, x5, x6}
-use Rattle.arctangent.specs.Limbs.{Proper, limb}
+use Rattle.arctangent.specs.Limbs.{Proper, limb, value}
+use Rattle.numbers.specs.Whole.{sign}
 use Rattle.arctangent.specs.declared.limbs.Limbs.{Limbs}
+use Rattle.numbers.proofs.SignLaws.{sign_above, sign_below}
 
 -- what is known of a number that stands for a digit
 pub digit_proper : {a : Limbs} (n : ℕ) → a.low ≡ pos n → n < limb → nat_abs a.high ≤ 2 ^ 60 → Proper a
@@ -33,6 +35,25 @@ module _ (a : Limbs) (p : Proper a) where
 
   pub low_most : nat_abs a.low ≤ limb
   low_most = rw (ap nat_abs low_is) (omega (arith, low_small))
+
+  -- the sign is the high limb's, or where that is zero the low one's
+  pub sign_of_low : a.high ≡ pos 0 → sign (value a) ≡ sign a.low
+  sign_of_low e = ap sign (ap (λ (h : ℤ). h *ℤ pos limb +ℤ a.low) e ∙ +ℤ_idl a.low)
+
+  pub sign_of_high : 0 < nat_abs a.high → sign (value a) ≡ sign a.high
+  sign_of_high h = go a.high h
+    where
+      none : 0 < 0 → ⊥
+      none h = omega arith
+
+      go : (z : ℤ) → 0 < nat_abs z → sign (z *ℤ pos limb +ℤ a.low) ≡ sign z
+      go (pos zero) h = absurd (none h)
+      go (pos (suc n)) h =
+          sign_above (pos 1) (pos 0) (negsuc 0) (pos (suc n) *ℤ pos limb +ℤ a.low)
+          (by_lt (# 0) (# (suc n) ⊠ # limb ⊞ ⟨ a.low ⟩) (omega (arith, to_le (# 0) ⟨ a.low ⟩ p.least)))
+      go (negsuc n) h =
+          sign_below (pos 1) (pos 0) (negsuc 0) (negsuc n *ℤ pos limb +ℤ a.low)
+          (by_lt (⟨ negsuc n ⟩ ⊠ # limb ⊞ ⟨ a.low ⟩) (# 0) (omega (arith, to_lt ⟨ a.low ⟩ (# limb) p.most)))
 
 -- a number that leaves room, from its size and its digit
 pub room_of : (h l : ℤ) → nat_abs (h *ℤ pos limb +ℤ l) ≤ 2 ^ 83 → nat_abs l ≤ limb → nat_abs h ≤ 2 ^ 60

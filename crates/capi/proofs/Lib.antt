@@ -1,1 +1,2 @@
 pub mod InstantLaws
+pub mod ProposalLaws

@@ -48,6 +48,10 @@ pub reduced_is : {z : ℤ} {n : ℕ} → z ≡ pos n → n < full_turn → is_re
 unfolding is_reduced
 reduced_is {z} {n} e h = rw e (simp (le-leb 0 n (omega arith), lt-ltb n full_turn h))
 
+pub middle_reduced : (a b : ℤ) → is_reduced a ≡ true → is_reduced b ≡ true → middle a b ≡ middle_of (nat_abs a) (nat_abs b)
+unfolding middle
+middle_reduced a b h k = ap₂ (λ (p q : Bool). cond (p && q) (middle_of (nat_abs a) (nat_abs b)) (refused 15)) h k
+
 -- the middle of two angles whose numbers were read
 pub both_reduced : (a b : ℤ) {x y : ℕ} → a ≡ pos x → x < full_turn → b ≡ pos y → y < full_turn → middle a b ≡ middle_of x y
 unfolding middle
