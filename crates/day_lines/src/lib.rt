@@ -3,7 +3,7 @@
 
 ghost use Rattle.std.specs.Prelude.{◌++◌, ◌≡◌, ◌+◌, ◌≤◌, length};
 ghost use Rattle.calendar.specs.Refusal.{OneAnswer};
-ghost use Rattle.rise_set.specs.Answer.{rise_set_answer, rise_set_numbers};
+ghost use Rattle.rise_set.specs.Answer.{rise_and_set, rise_set_answer, rise_set_numbers};
 ghost use Rattle.rise_set.specs.Crossing.{crossing_numbers};
 ghost use Rattle.text.specs.Decimal.{text_room};
 ghost use Rattle.day_lines.specs.DaysLine.{days_answer, days_line, crossing_text, rise_set_line, time_text};
@@ -14,8 +14,16 @@ use day::date::Date;
 use line_answers::body_line::body_request;
 use line_answers::refused::refusal_text;
 use rise_set::answer::{RiseSet, rise_and_set};
+use sky_vectors::geocentric::Body;
 use sky_vectors::station::Point;
 use text::decimal::Text;
+
+// Rise and set, by a curve that is kept for this call alone: a line that is refused before pays for none.
+fn risen(date: Date, body: Body, point: Point) -> Result<RiseSet, Refusal>
+    ensures { OneAnswer rise_set_answer (rise_and_set date body point) result }
+{
+    rise_and_set(date, body, point, &mut [0; MINUTES])
+}
 
 // The answer to a line, without its newline.
 pub fn days_answer(line: &[u8]) -> Result<RiseSet, Refusal>
@@ -24,7 +32,7 @@ pub fn days_answer(line: &[u8]) -> Result<RiseSet, Refusal>
     let (body, numbers) = body_request::<8>(line, 5)?;
     let date = Date::from(*numbers.first_chunk().unwrap());
     let point = Point::from(*numbers.last_chunk().unwrap());
-    rise_and_set(date, body, point, &mut [0; MINUTES])
+    risen(date, body, point)
 }
 
 // HH:MM.

@@ -28,5 +28,5 @@ returns c =
     c.last_chunk.ensures.cases in
     let date = c.from-date.ensures ∙ ap date_from first.same ∙ date_is numbers in
     let point = c.from-point.ensures ∙ ap Station.point_from (last.1.same ∙ ap (λ (n : ℕ). drop n numbers) behind) ∙ point_is 5 numbers in
-    one_rise_set (c.rise_and_set.ensures.one_answer.equal ∙ (λ i. rise_and_set (date i) c.in_ok-body.body (point i))
+    one_rise_set (c.risen.ensures.equal ∙ (λ i. rise_and_set (date i) c.in_ok-body.body (point i))
     ∙ sym (days_are c.args.line.now ∙ ap answer_to (sym c.in_ok-body.ensures)))
