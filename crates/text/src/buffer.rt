@@ -26,8 +26,8 @@ impl<const ROOM: usize> Model for Buffer<ROOM> {
 
     ghost inverse_ok = { λ buffer padded i. record {
       bytes = (ap (λ (n : ℕ). take buffer.used buffer.bytes ++ replicate (ROOM - n) 0) (length-take-le buffer.used buffer.bytes padded.within)
-        ∙ ap (λ (behind : List ℕ). take buffer.used buffer.bytes ++ behind) (sym padded.zeros)
-        ∙ take-append-drop buffer.used buffer.bytes) i;
+          ∙ ap (λ (behind : List ℕ). take buffer.used buffer.bytes ++ behind) (sym padded.zeros)
+          ∙ take-append-drop buffer.used buffer.bytes) i;
       used = length-take-le buffer.used buffer.bytes padded.within i;
     } };
 }

@@ -33,6 +33,6 @@ returns c =
     let air : Same c.args.numbers 0 = search rules in
     let body : Same c.args.numbers 1 = search rules in (
       passed_else (c.in_ok-read_body.ensures.0 ∙ ap body_refusal (c.code_in.ensures ∙ ap code_in body))
-      (c.in_ok-read_strip_air.ensures.0 ∙ ap strip_kind_refusal (c.code_in-2.ensures ∙ ap code_in air)),
+          (c.in_ok-read_strip_air.ensures.0 ∙ ap strip_kind_refusal (c.code_in-2.ensures ∙ ap code_in air)),
       c.header_of.ensures,
     )

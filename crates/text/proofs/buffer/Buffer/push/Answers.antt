@@ -1,5 +1,5 @@
 -- `push` keeps the zeros behind the bytes in use.
-use Rattle.std.proofs.Common.{◌∙◌, ap, arith, length, length-take-le}
+use Rattle.std.proofs.Common.{ap, arith, length, length-take-le}
 use Rattle.text.proofs.BufferLaws.{padded_after}
 use Rattle.text.proofs.buffer.Buffer.push.Goals as goal
 
